@@ -1,0 +1,18 @@
+-- `generators::Generators::new` meets its contract. Assumes nothing.
+use Rattle.laws.proofs.Tests.{tests}
+use Rattle.generators.specs.Reset.{generatorsReset}
+use borrow.Author.Needs.{needs}
+use Rattle.generators.proofs.Generators.new.Statement.{statement}
+use Rattle.generators.proofs.Generators.new.Tie as tie
+
+reset-requires : tie.Need-reset-requires
+reset-requires c κs = search needs
+
+reset-requires-2 : tie.Need-reset-requires-2
+reset-requires-2 c κs = search needs
+
+returns : tie.Need-returns
+returns c = cc
+
+pub new-spec : {M : Type 1} → statement M
+new-spec = tie.close (tie.spec reset-requires reset-requires-2 returns)

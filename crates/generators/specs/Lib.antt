@@ -1,0 +1,3 @@
+pub mod Generators
+pub mod Reset
+pub mod Range

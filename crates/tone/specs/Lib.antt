@@ -1,0 +1,2 @@
+pub mod Tone
+pub mod Range
