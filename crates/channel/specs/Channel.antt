@@ -1,0 +1,86 @@
+-- What a channel gives and keeps. 01, "One tick, one word"; reset by "Power-on and reset". Assumes nothing.
+use mathlib.Core.Bool.{Bool, true, false, cond}
+use Prim.Native.Nat.{ℕ, _*_, _/_, min}
+use lib.Dec.{eqb}
+use lib.Ieee.{Float, nan, inf, fin, binary32, up, down, div, mul, sub, neg, ofInt}
+use lib.IntN.{pos}
+use Rattle.channel.specs.declared.Drum.{Drum}
+use Rattle.channel.specs.declared.Drum.the-variants.{Off, Sample}
+use Rattle.channel.specs.declared.Channel.{Channel}
+use Rattle.channel.specs.declared.Heard.{Heard}
+use Rattle.channel.specs.Levels.{levelUsed, gatedLevel, loudnessOf}
+
+-- a whole number as an f32
+abbrev pub float : ℕ → Float
+float n = ofInt binary32 (pos n)
+
+abbrev pub over : Float → Float → Float
+over a b = div binary32 a b
+
+abbrev pub times : Float → Float → Float
+times a b = mul binary32 a b
+
+-- cut toward zero, at most 10922; negative and NaN give 0
+unfoldable pub cutOf : Float → ℕ
+cutOf nan = 0
+cutOf (inf negative) = cond negative 0 10922
+cutOf (fin negative m e) = cond negative 0 (min (m * up e / down e) 10922)
+
+-- a drum gives s / 4, times 10922, each rounded once in f32
+unfoldable pub drumOut : Float → ℕ
+unfolding cutOf
+drumOut s = cutOf (times (over s (float 4)) (float 10922))
+
+-- the channel after a word: its mute and drum as they were, its last output and last amplitude
+abbrev pub left : Channel → Float → Float → Channel
+left c output amplitude = record { muted = c .muted; drum = c .drum; output = output; amplitude = amplitude }
+
+-- Mute gives 0; muted 0.0 and 0.0
+abbrev pub heardMuted : Channel → Heard
+heardMuted c = record { out = 0; channel = left c (float 0) (float 0) }
+
+-- drum (out / 10922) × 2 - 1 and 1.0
+abbrev pub heardSample : Float → Channel → Heard
+heardSample s c =
+    let out = drumOut s in
+    record { out = out; channel = left c (sub binary32 (times (over (float out) (float 10922)) (float 2)) (float 1)) (float 1) }
+
+-- amplitude is the ungated index's level, halved as above, / 10922
+abbrev pub amplitudeOf : ℕ → Bool → Float
+amplitudeOf ungated half = over (float (loudnessOf half ungated)) (float 10922)
+
+-- output is plus it where gated and ungated levels agree, minus it otherwise, 0.0 if the ungated index is 0
+abbrev pub outputOf : ℕ → ℕ → Float → Float
+outputOf gated ungated amplitude = cond (eqb ungated 0) (float 0) (cond (eqb gated ungated) amplitude (neg amplitude))
+
+abbrev pub heardLevel : ℕ → ℕ → Bool → Channel → Heard
+heardLevel gated ungated half c =
+    let amplitude = amplitudeOf ungated half in
+    record { out = loudnessOf half gated; channel = left c (outputOf gated ungated amplitude) amplitude }
+
+abbrev pub heardBy : Drum → Channel → ℕ → ℕ → Bool → Heard
+heardBy (Sample s) c gated ungated half = heardSample s c
+heardBy Off c gated ungated half = heardLevel gated ungated half c
+
+unfoldable pub heard : Channel → ℕ → ℕ → Bool → Heard
+heard c gated ungated half = cond (c .muted) (heardMuted c) (heardBy (c .drum) c gated ungated half)
+
+-- one channel's output: its level, AND-ed with the gate
+unfoldable pub sounded : Channel → ℕ → Bool → ℕ → ℕ → Heard
+sounded c volume half envelope gate =
+    let ungated = levelUsed volume envelope in
+    heard c (gatedLevel ungated gate) ungated half
+
+-- a new channel
+abbrev pub quiet : Channel
+quiet = record { muted = false; drum = Off; output = float 0; amplitude = float 0 }
+
+abbrev pub withMute : Bool → Channel → Channel
+withMute muted c = record { muted = muted; drum = c .drum; output = c .output; amplitude = c .amplitude }
+
+abbrev pub withDrum : Drum → Channel → Channel
+withDrum drum c = record { muted = c .muted; drum = drum; output = c .output; amplitude = c .amplitude }
+
+-- drums off, channel outputs 0.0; it keeps mutes and each channel's last amplitude
+abbrev pub channelReset : Channel → Channel
+channelReset c = record { muted = c .muted; drum = Off; output = float 0; amplitude = c .amplitude }

@@ -1,0 +1,21 @@
+-- `mixer::Channels::set_mute` meets its contract: it joins its callees' promises. Assumes nothing.
+use borrow.Author.Needs.{needs}
+use Rattle.mixer.specs.Mix.{setMute}
+use Rattle.mixer.proofs.Channels.set_mute.Statement.{statement}
+use Rattle.mixer.proofs.Channels.set_mute.Tie as tie
+
+at-requires : tie.Need-at-requires
+at-requires c κs = search needs
+
+with-mute-requires : tie.Need-with-mute-requires
+with-mute-requires c κs = search needs
+
+put-requires : tie.Need-put-requires
+put-requires c κs = search needs
+
+returns : tie.Need-returns
+unfolding setMute
+returns c = cc
+
+pub set-mute-spec : {M : Type 1} → statement M
+set-mute-spec = tie.close (tie.spec at-requires with-mute-requires put-requires returns)

@@ -1,0 +1,16 @@
+-- The bound of a word, for a caller's proof to lean on; `ByNumber.antt` has the laws of channels by their number. 01, "One tick, one word". Assumes nothing.
+use mathlib.Core.Bool.{Bool}
+use mathlib.Core.List.{List}
+use Prim.Native.Nat.{ℕ, _+_, _/_, _≤_, _<_}
+use native.Mathlib.Omega.{arith}
+use Rattle.channel.proofs.Laws.{sounded-le}
+use Rattle.mixer.specs.declared.Channels.{Channels}
+use Rattle.mixer.specs.Mix.{mixed}
+
+-- a channel gives at most 10922, and a word at most three times that
+pub mixed-le : (s : Channels) (volumes : List ℕ) (halves : List Bool) (envelope gate : ℕ) → envelope < 32 → mixed s volumes halves envelope gate .word ≤ 32766
+unfolding mixed
+mixed-le s v half e g h = sum (sounded-le (s .a) _ _ e g h) (sounded-le (s .b) _ _ e (g / 32) h) (sounded-le (s .c) _ _ e (g / 1024) h)
+  where
+    sum : {a b c : ℕ} → a ≤ 10922 → b ≤ 10922 → c ≤ 10922 → a + b + c ≤ 32766
+    sum p q r = omega arith
