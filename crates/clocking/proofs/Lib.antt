@@ -1,0 +1,5 @@
+pub mod Ticking
+pub mod Adding
+pub mod Kept
+pub mod Wording
+pub mod Filling

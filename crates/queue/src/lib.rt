@@ -1,0 +1,174 @@
+// The ring of 256 waiting writes. 01, "Registers and ports" and "One tick, one word". Its meaning is the list of waiting writes, front first.
+ghost use mathlib.Core.Path.{_≡_};
+ghost use Rattle.queue.specs.Waiting.{empty, emptied, applyAll, waiting, QueueInRange, queueIn, ring, Pushes, Drains};
+use registers::Voice;
+
+pub struct Write {
+    pub stamp: u64,
+    pub register: u8,
+    pub value: u8,
+}
+
+pub struct Queue {
+    pub stamps: [u64; 256],
+    pub registers: [u8; 256],
+    pub values: [u8; 256],
+    pub head: usize,
+    pub count: usize,
+}
+
+pub struct Pushed {
+    pub queue: Queue,
+    pub no: u8,
+}
+
+// What a drain leaves: the ring's slots are as they were.
+pub struct Drained {
+    pub voice: Voice,
+    pub head: usize,
+    pub count: usize,
+}
+
+impl Queue {
+    pub fn new() -> Queue
+        ensures { λ r. ⌜ r ≡ empty ⌝ }
+    {
+        Queue {
+            stamps: [0; 256],
+            registers: [0; 256],
+            values: [0; 256],
+            head: 0,
+            count: 0,
+        }
+    }
+
+    // The test of a handed-in ring: its place, its count, and each waiting write's register.
+    pub fn in_range(self) -> bool
+        ensures { λ r. ⌜ r ≡ queueIn self ⌝ }
+    {
+        if self.head >= 256 {
+            return false;
+        }
+        if self.count > 256 {
+            return false;
+        }
+        let mut i: usize = 0;
+        while i < self.count {
+            let at = (self.head + i) % 256;
+            if self.registers[at] > 15 {
+                return false;
+            }
+            i = i + 1;
+        }
+        true
+    }
+
+    // Refused while 256 writes wait, and then nothing changes.
+    pub fn push(self, write: Write) -> Pushed
+        requires { ⌜ QueueInRange self ⌝ }
+        ensures { λ r. ⌜ Pushes write self r ⌝ }
+    {
+        if self.count >= 256 {
+            return Pushed {
+                queue: self,
+                no: refusals::QUEUE_FULL,
+            };
+        }
+        let at = (self.head + self.count) % 256;
+        let mut next = self;
+        next.stamps[at] = write.stamp;
+        next.registers[at] = write.register;
+        next.values[at] = write.value;
+        let more = self.count + 1;
+        next.count = more;
+        Pushed {
+            queue: next,
+            no: refusals::ACCEPTED,
+        }
+    }
+
+    // All waiting writes, in order.
+    pub fn flush(self, voice: Voice) -> Voice
+        requires { ⌜ QueueInRange self ⌝ }
+        ensures { λ r. ⌜ r ≡ applyAll (waiting self) voice ⌝ }
+    {
+        let mut v = voice;
+        let mut at = self.head;
+        let mut left = self.count;
+        while left > 0 {
+            v = v.apply_register(self.registers[at], self.values[at]);
+            at = (at + 1) % 256;
+            left = left - 1;
+        }
+        v
+    }
+
+    pub fn emptied(self) -> Queue
+        requires { ⌜ QueueInRange self ⌝ }
+        ensures { λ r. ⌜ r ≡ emptied self ⌝ }
+    {
+        let mut next = self;
+        let head = (self.head + self.count) % 256;
+        next.head = head;
+        next.count = 0;
+        next
+    }
+}
+
+// 01: "applied from the front while their stamp is at most that end; the first later one stops it". The ring is lent where it lies:
+// no slot is written, and the small state comes back.
+pub fn drain(
+    voice: Voice,
+    stamps: &[u64; 256],
+    registers: &[u8; 256],
+    values: &[u8; 256],
+    head: usize,
+    count: usize,
+    end: u64,
+) -> Drained
+    requires { ⌜ QueueInRange (ring (now stamps) (now registers) (now values) head count) ⌝ }
+    ensures { λ r. ⌜ Drains end voice (ring (now (stamps .entry)) (now (registers .entry)) (now (values .entry)) head count) r ⌝ }
+{
+    // nothing due is the usual case: then the voice need not leave its registers
+    if count == 0 {
+        return Drained { voice, head, count };
+    }
+    if stamps[head] > end {
+        return Drained { voice, head, count };
+    }
+    drain_due(voice, stamps, registers, values, head, count, end)
+}
+
+fn drain_due(
+    voice: Voice,
+    stamps: &[u64; 256],
+    registers: &[u8; 256],
+    values: &[u8; 256],
+    head: usize,
+    count: usize,
+    end: u64,
+) -> Drained
+    requires { ⌜ QueueInRange (ring (now stamps) (now registers) (now values) head count) ⌝ }
+    ensures { λ r. ⌜ Drains end voice (ring (now (stamps .entry)) (now (registers .entry)) (now (values .entry)) head count) r ⌝ }
+{
+    let mut v = voice;
+    let mut at = head;
+    let mut left = count;
+    while left > 0 {
+        if stamps[at] > end {
+            return Drained {
+                voice: v,
+                head: at,
+                count: left,
+            };
+        }
+        v = v.apply_register(registers[at], values[at]);
+        at = (at + 1) % 256;
+        left = left - 1;
+    }
+    Drained {
+        voice: v,
+        head: at,
+        count: left,
+    }
+}
