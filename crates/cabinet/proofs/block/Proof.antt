@@ -1,0 +1,15 @@
+-- `cabinet::block` meets its contract: the walk of `ThinSlice.antt`, at `word_calls::block`. Assumes nothing.
+use mathlib.Core.Path.{refl}
+use lib.ListN.{length}
+use Rattle.laws.proofs.ThinSlice as thin
+use Rattle.word_calls.specs.Blocks.{blockBuffer, blocked}
+use Rattle.word_calls.proofs.block.Symbol as g
+use Rattle.word_calls.proofs.block.Met as g-thm
+use Rattle.cabinet.proofs.Replies as replies
+use Rattle.cabinet.proofs.block.Key as key
+use Rattle.cabinet.proofs.block.Statement.{statement}
+use Rattle.cabinet.proofs.block.Code as code
+
+pub block-spec : {M : Type 1} → statement M
+unfolding code.routine
+block-spec 𝓤 H 𝓜 𝓖 𝓡 = thin.spec replies.blocked (λ c ws. blocked (length ws) c) (λ c ws. blockBuffer ws c) 𝓤 H 𝓜 𝓖 𝓡 code.env key.name g.name g.routine (code.unfolded 𝓤 H 𝓜 𝓡) refl (g-thm.met 𝓤 H 𝓜 𝓖 𝓡)

@@ -1,0 +1,15 @@
+-- `cabinet::pending_write_count` meets its contract: the walk of `Look.antt`, at `cycle_calls::pending_write_count`. Assumes nothing.
+use mathlib.Core.Path.{refl}
+use mathlib.Core.List.{[]}
+use Rattle.laws.proofs.Look as thin
+use Rattle.cycle_calls.specs.Cycles.{pendingWriteCount}
+use Rattle.cycle_calls.proofs.pending_write_count.Symbol as g
+use Rattle.cycle_calls.proofs.pending_write_count.Met as g-thm
+use Rattle.cabinet.proofs.Replies as replies
+use Rattle.cabinet.proofs.pending_write_count.Key as key
+use Rattle.cabinet.proofs.pending_write_count.Statement.{statement}
+use Rattle.cabinet.proofs.pending_write_count.Code as code
+
+pub pending-write-count-spec : {M : Type 1} → statement M
+unfolding code.routine
+pending-write-count-spec 𝓤 H 𝓜 𝓖 𝓡 = thin.spec [] replies.chip replies.count (λ c a. pendingWriteCount c) 𝓤 H 𝓜 𝓖 𝓡 code.env key.name g.name g.routine (code.unfolded 𝓤 H 𝓜 𝓡) refl (g-thm.met 𝓤 H 𝓜 𝓖 𝓡)

@@ -1,0 +1,196 @@
+// Every call, on a chip record that its owner lends. 01, "One tick, one word": "The cabinet host lends its one chip record and reads the new state there afterwards."
+// Calls that only read take `&Chip` and stand last.
+ghost use mathlib.Core.Path.{_≡_};
+ghost use lib.ListN.{length};
+ghost use Rattle.making.specs.Making.{resetCall};
+ghost use Rattle.register_calls.specs.Stored.{dumpRegisters, loadRegisters, readRegister, writeRegister};
+ghost use Rattle.port_calls.specs.Ports.{readPort, writePort, writePortImmediate};
+ghost use Rattle.cycle_calls.specs.Cycles.{cpuCycle, flushPendingWrites, pendingWriteCount, setCpuCycle, syncSampleCycle};
+ghost use Rattle.effect_calls.specs.Effects.{getChannelOutputs, isChannelMuted, setChannelMute, setDrumSampleOverride, setTimerIrqState, triggerEnvelope};
+ghost use Rattle.word_calls.specs.Blocks.{blockBuffer, blocked, sampled};
+use calls::Byte;
+use calls::Bytes;
+use calls::Count;
+use calls::Cycle;
+use calls::Flag;
+use calls::Outputs;
+use calls::Played;
+use calls::Sample;
+use channel::Drum;
+use clocking::Chip;
+
+pub fn reset(chip: &mut Chip) -> u8
+    ensures { λ r. ⌜ (r ≡ resetCall (now (chip .entry)) .no) × (now (chip .exit) ≡ resetCall (now (chip .entry)) .chip) ⌝ }
+{
+    let r = making::reset(*chip);
+    *chip = r.chip;
+    r.no
+}
+
+pub fn write_register(chip: &mut Chip, register: u8, value: u8) -> u8
+    ensures { λ r. ⌜ (r ≡ writeRegister register value (now (chip .entry)) .no)
+        × (now (chip .exit) ≡ writeRegister register value (now (chip .entry)) .chip) ⌝ }
+{
+    let r = register_calls::write_register(*chip, register, value);
+    *chip = r.chip;
+    r.no
+}
+
+pub fn load_registers(chip: &mut Chip, bytes: [u8; 16]) -> u8
+    ensures { λ r. ⌜ (r ≡ loadRegisters bytes (now (chip .entry)) .no)
+        × (now (chip .exit) ≡ loadRegisters bytes (now (chip .entry)) .chip) ⌝ }
+{
+    let r = register_calls::load_registers(*chip, bytes);
+    *chip = r.chip;
+    r.no
+}
+
+pub fn write_port(chip: &mut Chip, port: u8, value: u8) -> u8
+    ensures { λ r. ⌜ (r ≡ writePort port value (now (chip .entry)) .no)
+        × (now (chip .exit) ≡ writePort port value (now (chip .entry)) .chip) ⌝ }
+{
+    let r = port_calls::write_port(*chip, port, value);
+    *chip = r.chip;
+    r.no
+}
+
+pub fn write_port_immediate(chip: &mut Chip, port: u8, value: u8) -> u8
+    ensures { λ r. ⌜ (r ≡ writePortImmediate port value (now (chip .entry)) .no)
+        × (now (chip .exit) ≡ writePortImmediate port value (now (chip .entry)) .chip) ⌝ }
+{
+    let r = port_calls::write_port_immediate(*chip, port, value);
+    *chip = r.chip;
+    r.no
+}
+
+pub fn set_cpu_cycle(chip: &mut Chip, cycle: u64) -> u8
+    ensures { λ r. ⌜ (r ≡ setCpuCycle cycle (now (chip .entry)) .no)
+        × (now (chip .exit) ≡ setCpuCycle cycle (now (chip .entry)) .chip) ⌝ }
+{
+    let r = cycle_calls::set_cpu_cycle(*chip, cycle);
+    *chip = r.chip;
+    r.no
+}
+
+pub fn sync_sample_cycle(chip: &mut Chip, cycle: u64) -> u8
+    ensures { λ r. ⌜ (r ≡ syncSampleCycle cycle (now (chip .entry)) .no)
+        × (now (chip .exit) ≡ syncSampleCycle cycle (now (chip .entry)) .chip) ⌝ }
+{
+    let r = cycle_calls::sync_sample_cycle(*chip, cycle);
+    *chip = r.chip;
+    r.no
+}
+
+pub fn flush_pending_writes(chip: &mut Chip) -> u8
+    ensures { λ r. ⌜ (r ≡ flushPendingWrites (now (chip .entry)) .no)
+        × (now (chip .exit) ≡ flushPendingWrites (now (chip .entry)) .chip) ⌝ }
+{
+    let r = cycle_calls::flush_pending_writes(*chip);
+    *chip = r.chip;
+    r.no
+}
+
+pub fn set_timer_irq_state(chip: &mut Chip, on: bool) -> u8
+    ensures { λ r. ⌜ (r ≡ setTimerIrqState on (now (chip .entry)) .no)
+        × (now (chip .exit) ≡ setTimerIrqState on (now (chip .entry)) .chip) ⌝ }
+{
+    let r = effect_calls::set_timer_irq_state(*chip, on);
+    *chip = r.chip;
+    r.no
+}
+
+pub fn inside_timer_irq(chip: &mut Chip, inside: bool) -> u8
+    ensures { λ r. ⌜ (r ≡ setTimerIrqState inside (now (chip .entry)) .no)
+        × (now (chip .exit) ≡ setTimerIrqState inside (now (chip .entry)) .chip) ⌝ }
+{
+    let r = effect_calls::inside_timer_irq(*chip, inside);
+    *chip = r.chip;
+    r.no
+}
+
+pub fn trigger_envelope(chip: &mut Chip) -> u8
+    ensures { λ r. ⌜ (r ≡ triggerEnvelope (now (chip .entry)) .no)
+        × (now (chip .exit) ≡ triggerEnvelope (now (chip .entry)) .chip) ⌝ }
+{
+    let r = effect_calls::trigger_envelope(*chip);
+    *chip = r.chip;
+    r.no
+}
+
+pub fn set_channel_mute(chip: &mut Chip, channel: usize, muted: bool) -> u8
+    ensures { λ r. ⌜ (r ≡ setChannelMute channel muted (now (chip .entry)) .no)
+        × (now (chip .exit) ≡ setChannelMute channel muted (now (chip .entry)) .chip) ⌝ }
+{
+    let r = effect_calls::set_channel_mute(*chip, channel, muted);
+    *chip = r.chip;
+    r.no
+}
+
+pub fn set_drum_sample_override(chip: &mut Chip, channel: usize, drum: Drum) -> u8
+    ensures { λ r. ⌜ (r ≡ setDrumSampleOverride channel drum (now (chip .entry)) .no)
+        × (now (chip .exit) ≡ setDrumSampleOverride channel drum (now (chip .entry)) .chip) ⌝ }
+{
+    let r = effect_calls::set_drum_sample_override(*chip, channel, drum);
+    *chip = r.chip;
+    r.no
+}
+
+pub fn compute_next_sample(chip: &mut Chip) -> Sample
+    ensures { λ r. ⌜ (r ≡ sampled (now (chip .entry)) .answer) × (now (chip .exit) ≡ sampled (now (chip .entry)) .chip) ⌝ }
+{
+    let r = word_calls::compute_next_sample(*chip);
+    *chip = r.chip;
+    r.answer
+}
+
+pub fn block(chip: &mut Chip, out: &mut [u16]) -> Played
+    ensures { λ r. ⌜ (r ≡ blocked (length (now (out .entry))) (now (chip .entry)) .answer)
+        × (now (chip .exit) ≡ blocked (length (now (out .entry))) (now (chip .entry)) .chip)
+        × (now (out .exit) ≡ blockBuffer (now (out .entry)) (now (chip .entry))) ⌝ }
+{
+    let r = word_calls::block(*chip, out);
+    *chip = r.chip;
+    r.answer
+}
+
+pub fn read_register(chip: &Chip, register: u8) -> Byte
+    ensures { λ r. ⌜ r ≡ readRegister register (now (chip .entry)) ⌝ }
+{
+    register_calls::read_register(*chip, register)
+}
+
+pub fn dump_registers(chip: &Chip) -> Bytes
+    ensures { λ r. ⌜ r ≡ dumpRegisters (now (chip .entry)) ⌝ }
+{
+    register_calls::dump_registers(*chip)
+}
+
+pub fn read_port(chip: &Chip, port: u8) -> Byte
+    ensures { λ r. ⌜ r ≡ readPort port (now (chip .entry)) ⌝ }
+{
+    port_calls::read_port(*chip, port)
+}
+
+pub fn cpu_cycle(chip: &Chip) -> Cycle
+    ensures { λ r. ⌜ r ≡ cpuCycle (now (chip .entry)) ⌝ }
+{
+    cycle_calls::cpu_cycle(*chip)
+}
+
+pub fn pending_write_count(chip: &Chip) -> Count
+    ensures { λ r. ⌜ r ≡ pendingWriteCount (now (chip .entry)) ⌝ }
+{
+    cycle_calls::pending_write_count(*chip)
+}
+
+pub fn is_channel_muted(chip: &Chip, channel: usize) -> Flag
+    ensures { λ r. ⌜ r ≡ isChannelMuted channel (now (chip .entry)) ⌝ }
+{
+    effect_calls::is_channel_muted(*chip, channel)
+}
+
+pub fn get_channel_outputs(chip: &Chip) -> Outputs
+    ensures { λ r. ⌜ r ≡ getChannelOutputs (now (chip .entry)) ⌝ }
+{
+    effect_calls::get_channel_outputs(*chip)
+}
