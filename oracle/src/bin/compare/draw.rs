@@ -1,0 +1,141 @@
+//! Draws scripts. Each call is run on the oracle as it is drawn, so that later ones can aim at the state reached.
+
+use crate::moods::{Act, Act::*, MOODS, weighed};
+use crate::random::Random;
+use oracle::refusal::MASTER_MAX;
+use oracle::script::Bench;
+
+/// A script, what the oracle prints for it, and its tally.
+pub struct Drawn {
+    pub script: String,
+    pub printed: String,
+    pub calls: u64,
+    pub words: u64,
+    pub ticks: u64,
+}
+
+pub struct Draw<'a> {
+    pub random: &'a mut Random,
+    pub bench: Bench,
+    script: String,
+    printed: String,
+    /// Ticks that the script may still run.
+    pub budget: u64,
+}
+
+/// One script of a drawn mood. It makes its chip first, unless it begins on the default one.
+pub fn script(random: &mut Random, begin_on_default: bool) -> Drawn {
+    let budget = 1_000 + random.spread(1 << 20);
+    let mood = weighed(random, &MOODS);
+    let calls = mood.calls + random.spread(255);
+    let mut draw = Draw { random, bench: Bench::default(), script: String::new(), printed: String::new(), budget };
+    if !begin_on_default {
+        draw.make();
+    }
+    draw.lent();
+    while draw.bench.calls < calls {
+        draw.act(mood.acts);
+    }
+    let Bench { calls, words, ticks, .. } = draw.bench;
+    Drawn { script: draw.script, printed: draw.printed, calls, words, ticks }
+}
+
+impl Draw<'_> {
+    pub fn call(&mut self, line: String) {
+        let before = self.bench.ticks;
+        assert!(self.bench.line(&line, &mut self.printed), "not of the form: {line}");
+        self.budget = self.budget.saturating_sub(self.bench.ticks - before);
+        self.script.push_str(&line);
+        self.script.push('\n');
+    }
+
+    fn act(&mut self, acts: &[(u64, Act)]) {
+        match weighed(self.random, acts) {
+            Register => self.register(),
+            Low => self.low(),
+            Shape => self.shape(),
+            Load => self.load(),
+            Data => self.data(),
+            Fill => self.fill(),
+            Now => self.now(),
+            Cycle => self.stamped("cycle"),
+            Sync => self.stamped("sync"),
+            End => self.end(),
+            Flush => self.call("flush".into()),
+            Irq => self.irq(),
+            Trigger => self.call("trigger".into()),
+            Mute => self.mute(),
+            Drum => self.drum(),
+            Word => self.word(),
+            Block => self.block(),
+            Read => self.read(),
+            Reset => self.call("reset".into()),
+            New => self.make(),
+            Refused => self.refused(),
+            Lent => self.lent(),
+        }
+    }
+
+    // ---- making ----
+
+    fn make(&mut self) {
+        let (master, rate) = match self.random.below(24) {
+            0 => return self.call("default".into()),
+            1..=2 => self.refused_clocks(),
+            3..=5 => (2_000_000, 44_100),
+            6..=8 => self.one_tick_clocks(),
+            9..=10 => self.tiny_clocks(),
+            11..=12 => self.extreme_clocks(),
+            _ => self.any_clocks(),
+        };
+        self.call(format!("new {master} {rate}"));
+    }
+
+    fn any_clocks(&mut self) -> (u64, u64) {
+        let master = self.random.spread(MASTER_MAX as u64).max(8);
+        let ticks = self.random.spread(700);
+        let rate = (master / 8 / ticks + self.random.below(3)).clamp(1, master / 8);
+        (master, rate)
+    }
+
+    fn one_tick_clocks(&mut self) -> (u64, u64) {
+        let any = self.random.spread(MASTER_MAX as u64).max(8);
+        let master = self.random.pick(&[2_000_000, 8, 15, 16, MASTER_MAX as u64, any]);
+        (master, master / 8)
+    }
+
+    fn tiny_clocks(&mut self) -> (u64, u64) {
+        let master = self.random.within(8, 120);
+        (master, self.random.within(1, master / 8))
+    }
+
+    /// Here a word may take up to 134,217,727 ticks; the budget says whether one is asked for.
+    fn extreme_clocks(&mut self) -> (u64, u64) {
+        let master = MASTER_MAX as u64 - self.random.below(9);
+        let near_one_tick = master / 8 - self.random.below(3);
+        let near_two_ticks = master / 16 + self.random.below(3);
+        let slow = self.random.within(1, 5_000);
+        (master, self.random.pick(&[near_one_tick, near_two_ticks, slow, 1, 1_000, 50_000_000]))
+    }
+
+    pub fn refused_clocks(&mut self) -> (u64, u64) {
+        let master = self.random.spread(MASTER_MAX as u64);
+        let high = self.random.within(MASTER_MAX as u64 + 1, u32::MAX as u64);
+        let all = u32::MAX as u64;
+        self.random.pick(&[
+            (MASTER_MAX as u64 + 1, 0),
+            (MASTER_MAX as u64 + 1, 44_100),
+            (all, all),
+            (high, 0),
+            (high, master),
+            (master, 0),
+            (7, 0),
+            (0, 0),
+            (7, 1),
+            (0, 1),
+            (2_000_000, 250_001),
+            (master, master / 8 + 1),
+            (master, all),
+        ])
+    }
+}

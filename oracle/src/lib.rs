@@ -1,0 +1,17 @@
+//! The oracle: crate ym2149 0.9.1 with its filter taken out, driven call by call. README.md says how.
+
+// At the root, so that the crate's own `use crate::` lines stay as they are.
+// `last_select_cycle` is written and never read, in the crate too.
+#[allow(dead_code)]
+#[path = "ym2149/chip.rs"]
+pub mod chip;
+#[path = "ym2149/generators.rs"]
+pub mod generators;
+#[path = "ym2149/mixer.rs"]
+pub mod mixer;
+#[path = "ym2149/tables.rs"]
+pub mod tables;
+
+pub mod dump;
+pub mod refusal;
+pub mod script;
