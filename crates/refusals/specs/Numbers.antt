@@ -33,6 +33,22 @@ blockTooLate = 6
 abbrev pub noSuchChannel : ℕ
 noSuchChannel = 7
 
+-- dump line missing or not of its form
+abbrev pub lineNotOfForm : ℕ
+lineNotOfForm = 8
+
+-- `words` or `frames` out of range
+abbrev pub sizeOutOfRange : ℕ
+sizeOutOfRange = 9
+
+-- bytes after the last line due
+abbrev pub bytesAfterTheEnd : ℕ
+bytesAfterTheEnd = 10
+
+-- dump longer than 65,536 bytes
+abbrev pub dumpTooLong : ℕ
+dumpTooLong = 11
+
 -- a handed-in chip record out of range
 abbrev pub outOfRange : ℕ
 outOfRange = 22

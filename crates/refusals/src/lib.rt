@@ -15,4 +15,12 @@ pub const BLOCK_TOO_LATE: u8 = 6;
 
 pub const NO_SUCH_CHANNEL: u8 = 7;
 
+pub const LINE_NOT_OF_FORM: u8 = 8;
+
+pub const SIZE_OUT_OF_RANGE: u8 = 9;
+
+pub const BYTES_AFTER_THE_END: u8 = 10;
+
+pub const DUMP_TOO_LONG: u8 = 11;
+
 pub const OUT_OF_RANGE: u8 = 22;

@@ -1,0 +1,83 @@
+-- What callers lean on: an accepted dump's numbers are in range, and each of its frames has its form. Assumes nothing.
+use mathlib.Core.Bool.{true, false}
+use mathlib.Core.Path.{_≡_, refl, sym, ap, _∙_}
+use mathlib.Core.List.{List}
+use Prim.Native.Nat.{ℕ, zero, suc, _+_, _/_, _≤_, _<_}
+use native.Mathlib.Omega.{arith}
+use lib.ListN.{length}
+use Rattle.laws.proofs.Tests.{by-cond, by-lt}
+use Rattle.text.specs.Bytes.{bytes}
+use Rattle.text.specs.Lines.{lineAt}
+use Rattle.dump.specs.Checked.{acceptedWith, entryAt, masterNo, rateNo, wordsNo, framesNo, frameAt, framesFrom, sized, checked}
+use Rattle.dump.specs.declared.whole.Verdict.{Verdict}
+use Rattle.dump.proofs.Ranges.{master-range, rate-range, words-range, frames-range}
+
+-- the place of the line f lines on
+abbrev pub placeFrom : List ℕ → ℕ → ℕ → ℕ
+placeFrom t at zero = at
+placeFrom t at (suc f) = lineAt t (placeFrom t at f) .next
+
+pub record Laid (t : List ℕ) (r : Verdict) : Type 0 where
+  pub top : r .master ≤ 1073741823
+  pub some : 0 < r .rate
+  pub slow : r .rate ≤ r .master / 8
+  pub words : r .words ≤ 4096
+  pub frames : r .frames ≤ 1900
+  pub frame : (f : ℕ) → f < r .frames → frameAt t (placeFrom t (r .body) f) ≡ true
+
+-- a line on, then f lines on
+place-on : (t : List ℕ) (at f : ℕ) → placeFrom t (lineAt t at .next) f ≡ placeFrom t at (suc f)
+place-on t at zero = refl
+place-on t at (suc f) = ap (λ (p : ℕ). lineAt t p .next) (place-on t at f)
+
+record Run (t : List ℕ) (good : Verdict) (k at : ℕ) (v : Verdict) : Type 0 where
+  same : v ≡ good
+  frame : (f : ℕ) → f < k → frameAt t (placeFrom t at f) ≡ true
+
+run : (t : List ℕ) (good : Verdict) (k line at : ℕ) → framesFrom t good k line at .no ≡ 0 → Run t good k at (framesFrom t good k line at)
+unfolding framesFrom
+run t good zero line at =
+    by-lt (λ (v : Verdict). v .no ≡ 0 → Run t good 0 at v) at _ (λ o e. absurd (omega arith))
+    (λ o e. record { same = refl; frame = λ f g. absurd (omega arith) })
+run t good (suc k) line at =
+    by-cond (λ (v : Verdict). v .no ≡ 0 → Run t good (suc k) at v) (frameAt t at) _ _
+    (λ g e. let r = run t good k (line + 1) (lineAt t at .next) e in record { same = r .same; frame = one-more t at k g (r .frame) })
+    (λ g e. absurd (omega arith))
+  where
+    one-more : (t : List ℕ) (at k : ℕ) → frameAt t at ≡ true → ((f : ℕ) → f < k → frameAt t (placeFrom t (lineAt t at .next) f) ≡ true)
+        → (f : ℕ) → f < suc k → frameAt t (placeFrom t at f) ≡ true
+    one-more t at k g more zero h = g
+    one-more t at k g more (suc f) h = rw (← place-on t at f) (more f (omega arith))
+
+-- a refusal's number is the one that its test found above 0
+refused-not : {v : Verdict} {n : ℕ} (t : List ℕ) → 0 < n → n ≡ 0 → Laid t v
+refused-not t h e = absurd (omega arith)
+
+record Paced (master rate : ℕ) : Type 0 where
+  top : master ≤ 1073741823
+  some : 0 < rate
+  slow : rate ≤ master / 8
+
+sized-laid : (t : List ℕ) (master rate at : ℕ) → Paced master rate → sized t master rate at .no ≡ 0 → Laid t (sized t master rate at)
+unfolding sized
+sized-laid t master rate at p =
+    let three = entryAt (bytes "words=") t at in
+    let four = entryAt (bytes "frames=") t (three .next) in
+    let good = acceptedWith master rate (three .value) (four .value) (four .next) in
+    by-lt (λ (v : Verdict). v .no ≡ 0 → Laid t v) 0 (wordsNo three) (λ h e. refused-not t h e)
+    (λ h. by-lt (λ (v : Verdict). v .no ≡ 0 → Laid t v) 0 (framesNo four) (λ g e. refused-not t g e)
+    (λ g e.
+    let r = run t good (four .value) 5 (four .next) e in
+    rw (r .same)
+    (record { top = p .top; some = p .some; slow = p .slow; words = words-range three h .1; frames = frames-range four g .1; frame = r .frame })))
+
+pub accepted-laid : (t : List ℕ) → checked t .no ≡ 0 → Laid t (checked t)
+unfolding checked
+accepted-laid t =
+    let one = entryAt (bytes "master=") t 0 in
+    let two = entryAt (bytes "rate=") t (one .next) in
+    by-lt (λ (v : Verdict). v .no ≡ 0 → Laid t v) 65536 (length t) (λ h e. absurd (omega arith))
+    (λ h. by-lt (λ (v : Verdict). v .no ≡ 0 → Laid t v) 0 (masterNo one) (λ g e. refused-not t g e)
+    (λ g. by-lt (λ (v : Verdict). v .no ≡ 0 → Laid t v) 0 (rateNo (one .value) two) (λ g e. refused-not t g e)
+    (λ k. sized-laid t (one .value) (two .value) (two .next)
+    (record { top = master-range one g; some = rate-range two (one .value) k .0; slow = rate-range two (one .value) k .1 }))))

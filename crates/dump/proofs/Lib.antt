@@ -1,0 +1,4 @@
+pub mod Framing
+pub mod Ranges
+pub mod Header
+pub mod Accepted

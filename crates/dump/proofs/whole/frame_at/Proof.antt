@@ -1,0 +1,22 @@
+-- `whole::frame_at` meets its contract: the form of the line's value. Assumes nothing.
+use borrow.Author.Needs.{needs}
+use Rattle.dump.specs.Checked.{frameAt}
+use Rattle.dump.proofs.whole.frame_at.Statement.{statement}
+use Rattle.dump.proofs.whole.frame_at.Tie as tie
+
+slice-aggregate-value-at : tie.Need-slice-aggregate-value-at
+slice-aggregate-value-at c = search needs
+
+value-at-requires : tie.Need-value-at-requires
+value-at-requires c κs = search needs
+
+is-frame-requires : tie.Need-is-frame-requires
+is-frame-requires c κs = search needs
+
+returns : tie.Need-returns
+unfolding frameAt
+returns c = cc
+
+pub frame-at-spec : {M : Type 1} → statement M
+frame-at-spec =
+    tie.close (tie.spec slice-aggregate-value-at value-at-requires is-frame-requires returns)
