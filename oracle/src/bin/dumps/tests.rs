@@ -1,4 +1,7 @@
-//! Answers worked out by hand from 01 and the choices in docs/DECISIONS.md, held beside the oracle's.
+//! Answers worked out by hand from 01, held beside the oracle's.
+//!
+//! Where 01 leaves it open: a decimal of up to 10 digits has good form, however large. A line due that is missing, or has
+//! no LF, gives 8 at its own line. 10 stands at line 5 + frames, for one byte too.
 
 use crate::{answer, drawn};
 
