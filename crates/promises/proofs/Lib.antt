@@ -1,0 +1,12 @@
+pub mod Reach
+pub mod Course
+pub mod Sounds
+pub mod Words
+pub mod Deeds
+pub mod Numbered
+pub mod Kept
+pub mod Circling
+pub mod Demand
+pub mod Public
+pub mod Handed
+pub mod Cases

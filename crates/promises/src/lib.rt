@@ -1,0 +1,1 @@
+// No behaviour: what every history of calls keeps (specs/History.antt, specs/Demand.antt).
