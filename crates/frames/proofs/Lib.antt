@@ -1,3 +1,3 @@
 pub mod Loading
 pub mod Playing
-pub mod Course
+pub mod Whole

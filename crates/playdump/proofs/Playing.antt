@@ -18,7 +18,7 @@ use Rattle.calls.specs.declared.Blocked.{Blocked}
 use Rattle.making.specs.Making.{withClocks}
 use Rattle.frames.specs.Frame.{framePlayed, frameBuffer}
 use Rattle.frames.specs.Whole.{placeOf, valueOf, chipBefore, frameWords}
-use Rattle.frames.proofs.Course.{leaves, fills}
+use Rattle.frames.proofs.Whole.{leaves, fills}
 
 -- where frame f stands, and the chip before it
 pub record Playing (t : List ℕ) (v : Verdict) (words : List ℕ) (chip : Chip) (at f : ℕ) : Type 0 where
