@@ -1,0 +1,5 @@
+pub mod Laws
+pub mod Chip
+pub mod Cabinet
+pub mod Dump
+pub mod Parts

@@ -1,0 +1,1 @@
+// No behaviour: two answers that satisfy a public call's promise are equal (specs/Settled.antt).
