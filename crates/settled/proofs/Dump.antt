@@ -35,4 +35,6 @@ played =
       refusal = λ h x y. by-answer (h .𝓤);
       total = λ h x y. by-answer (h .𝓤);
       ym2149-play = λ h x y. by-buffer (h .𝓤) (λ w. (tt, (tt, (tt, (w, tt)))));
+      ym2149-play-blocks = λ h x y. by-buffer (h .𝓤) (λ w. (tt, (tt, (tt, (tt, (w, tt))))));
+      ym2149-play-writes = λ h x y. by-buffer (h .𝓤) (λ w. (tt, (tt, (tt, (tt, (tt, (w, tt)))))));
     }

@@ -16,6 +16,8 @@ use Rattle.output.proofs.put_words as put-words
 use Rattle.output.proofs.refusal
 use Rattle.output.proofs.total
 use Rattle.exports.proofs.ym2149_play as ym2149-play
+use Rattle.exports.proofs.ym2149_play_blocks as ym2149-play-blocks
+use Rattle.exports.proofs.ym2149_play_writes as ym2149-play-writes
 use Rattle.settled.specs.Settled.{Settles, SettlesAs}
 
 pub record Played : Type 2 where
@@ -36,3 +38,5 @@ pub record Played : Type 2 where
   pub refusal : Settles refusal.ended (λ M. refusal.clauses)
   pub total : Settles total.ended (λ M. total.clauses)
   pub ym2149-play : Settles ym2149-play.ended (λ M. ym2149-play.clauses)
+  pub ym2149-play-blocks : Settles ym2149-play-blocks.ended (λ M. ym2149-play-blocks.clauses)
+  pub ym2149-play-writes : Settles ym2149-play-writes.ended (λ M. ym2149-play-writes.clauses)
