@@ -1,0 +1,5 @@
+pub mod Passing
+pub mod Owning
+pub mod Lending
+pub mod LendingSlice
+pub mod Showing
