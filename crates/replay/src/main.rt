@@ -1,0 +1,21 @@
+// Plays a script of calls on standard input, and prints after each call its answer and all that a caller can see. The script's form
+// and what is printed are those of oracle/README.md, so that the crate can be run beside it.
+//
+// `stdin` and `stdout` hold a script and what the crate answers to it; the head of `stdin` says how they are made.
+mod call;
+mod desk;
+mod effects;
+mod field;
+mod line;
+mod looks;
+mod name;
+mod number;
+mod say;
+mod script;
+mod seek;
+mod state;
+mod words;
+
+fn main() {
+    script::play();
+}
