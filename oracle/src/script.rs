@@ -9,6 +9,8 @@ use std::fmt::Write;
 
 /// A longer block prints its first and last word and a check of all.
 const WORDS_SHOWN: usize = 32;
+/// No script has a longer block.
+const LONGEST: u32 = 65_537;
 
 /// One chip and what has been asked of it.
 #[derive(Default)]
@@ -72,7 +74,7 @@ impl Bench {
                 value(format!("{} {} {}", bits(a), bits(b), bits(c)))
             }
             ["word"] => Some(self.block(1)),
-            ["block", length] => Some(self.block(number::<u32>(length)? as usize)),
+            ["block", length] => Some(self.block(number(length).filter(|&length: &u32| length <= LONGEST)? as usize)),
             ["lent", on] => done(flag(on)?),
             _ => None,
         }
