@@ -9,14 +9,14 @@ use Rattle.tone.specs.Tone.{toneSet, toneTick}
 use Rattle.noise.specs.Noise.{registerStep, outputBy, noiseTick}
 use Rattle.envelope.specs.Envelope.{nextPosition, envelopeTick, placeOf, envelopeLevel}
 use Rattle.generators.specs.Generators.{tick, edgesOf, toneAt, putTone, tonesSet}
-use Rattle.generators.specs.Reset.{seeded, powerOnEdges, generatorsReset}
+use Rattle.generators.specs.Reset.{powerOnEdges, generatorsReset}
 use Rattle.gates.specs.Gates.{gatesFrom, gateOf}
-use Rattle.channel.specs.Channel.{cutOf, drumOut, heard, sounded}
+use Rattle.channel.specs.Channel.{drumOut, heard, sounded}
 use Rattle.channel.specs.Levels.{levelUsed, gatedLevel, loudnessOf}
 use Rattle.mixer.specs.Mix.{channelAt, putChannel, setMute, setDrum, mixed}
 use Rattle.registers.specs.Registers.{pairAt, tonePeriodSet, noisePeriodSet, gatesSet, envelopePeriodSet, shapeSet, voiceSet, masked, applyRegister}
 use Rattle.registers.specs.Reset.{voiceReset}
-use Rattle.queue.specs.Waiting.{writesFrom, waiting, due, late, applyAll, taken, drain, queueIn}
+use Rattle.queue.specs.Waiting.{writesFrom, waiting, due, applyAll, drain, queueIn}
 use Rattle.clocking.specs.Ticks.{ticking, ticked}
 use Rattle.clocking.specs.Word.{drained, ranOf, mixedOf, wordOf, afterWords, ticksOf, wordsOf}
 use Rattle.record.specs.Clocks.{clocksNo}
@@ -33,7 +33,7 @@ use Rattle.bench_rules.specs.Setups.{ticks, shape8, drumAlone, resetAfte
 use Rattle.bench_rules.specs.Table.{Table}
 
 pub table : Table
-unfolding ticks shape8 drumAlone resetAfter31 needless digits decimalOf hexValue allHex hexByte span lineAt startsWith valueAt lineEntryAt masterNo rateNo wordsNo framesNo isFrame frameAt framesFrom sized checked shapeEntry entryAt toneSet toneTick registerStep outputBy noiseTick nextPosition envelopeTick placeOf envelopeLevel tick edgesOf toneAt putTone tonesSet seeded powerOnEdges generatorsReset gatesFrom gateOf cutOf drumOut heard sounded levelUsed gatedLevel loudnessOf channelAt putChannel setMute setDrum mixed pairAt tonePeriodSet noisePeriodSet gatesSet envelopePeriodSet shapeSet voiceSet masked applyRegister voiceReset writesFrom waiting due late applyAll taken drain queueIn ticking ticked drained ranOf mixedOf wordOf afterWords ticksOf wordsOf clocksNo clocksIn bytesIn toneIn allOrNone noiseIn envelopeIn generatorsIn gatesIn voiceIn coreIn chipIn madeOf fresh withClocks resetOf resetCall writeRegister readRegister setChannelMute setDrumSampleOverride blockNumber blocked blockBuffer sampled frameWrites frameChip framePlace chipBefore frameWords wordsIn spelt linesOf totalText printed mul div ofInt
+unfolding ticks shape8 drumAlone resetAfter31 needless digits decimalOf hexValue allHex hexByte span lineAt startsWith valueAt lineEntryAt masterNo rateNo wordsNo framesNo isFrame frameAt framesFrom sized checked shapeEntry entryAt toneSet toneTick registerStep outputBy noiseTick nextPosition envelopeTick placeOf envelopeLevel tick edgesOf toneAt putTone tonesSet powerOnEdges generatorsReset gatesFrom gateOf drumOut heard sounded levelUsed gatedLevel loudnessOf channelAt putChannel setMute setDrum mixed pairAt tonePeriodSet noisePeriodSet gatesSet envelopePeriodSet shapeSet voiceSet masked applyRegister voiceReset writesFrom waiting due applyAll drain queueIn ticking ticked drained ranOf mixedOf wordOf afterWords ticksOf wordsOf clocksNo clocksIn bytesIn toneIn allOrNone noiseIn envelopeIn generatorsIn gatesIn voiceIn coreIn chipIn madeOf fresh withClocks resetOf resetCall writeRegister readRegister setChannelMute setDrumSampleOverride blockNumber blocked blockBuffer sampled frameWrites frameChip framePlace chipBefore frameWords wordsIn spelt linesOf totalText printed mul div ofInt
 table =
     record {
       seed = refl;

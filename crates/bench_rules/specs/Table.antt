@@ -1,7 +1,6 @@
 -- The cases that 01 marks P, in 01's order. 01, "Benchmarks for the bench rules". Assumes nothing.
-use mathlib.Core.List.{List, [], _∷_, map}
+use mathlib.Core.List.{[], _∷_, map}
 use mathlib.Core.Path.{_≡_}
-use Prim.Native.Nat.{ℕ}
 use lib.IntN.{pos}
 use Rattle.tables.specs.Envelope.{offsetOf, entryAt}
 use Rattle.envelope.specs.Envelope.{placeOf, envelopeLevel}

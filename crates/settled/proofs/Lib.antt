@@ -1,5 +1,6 @@
 pub mod Laws
 pub mod Chip
 pub mod Cabinet
+pub mod Host
 pub mod Dump
 pub mod Parts
