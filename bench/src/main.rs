@@ -111,6 +111,18 @@ fn best(play: &Play) -> (f64, f64) {
     (ours / play.words(), theirs / play.words())
 }
 
+/// A line above its bar is measured twice more, and the best of all counts, for both sides: a neighbour may have been loud.
+fn held(play: &Play, bar: Option<f64>) -> (f64, f64) {
+    let (mut ours, mut theirs) = best(play);
+    for _ in 0..2 {
+        if bar.is_some_and(|bar| ours / theirs > bar) {
+            let again = best(play);
+            (ours, theirs) = (ours.min(again.0), theirs.min(again.1));
+        }
+    }
+    (ours, theirs)
+}
+
 fn bar(play: &Play, of_rate: f64) -> Option<f64> {
     match play.load {
         Load::Busy | Load::Silent if play.block == 4096 => Some(of_rate),
@@ -132,9 +144,9 @@ fn main() {
                     continue;
                 }
                 let play = Play::new(load, rate, block);
-                let (ours, theirs) = best(&play);
-                let ratio = ours / theirs;
                 let bar = if plain { bar(&play, of_rate) } else { None };
+                let (ours, theirs) = held(&play, bar);
+                let ratio = ours / theirs;
                 let over = bar.is_some_and(|bar| ratio > bar);
                 missed += over as i32;
                 let held = bar.map_or(String::new(), |bar| format!("{bar:.1}"));
