@@ -6,6 +6,9 @@ use lib.Bits.{bitOr}
 use Rattle.laws.proofs.Tests.{on-le, on-gt}
 use Rattle.generators.specs.declared.Generators.{Generators}
 use Rattle.generators.specs.Generators.{tick, edgesOf}
+use Rattle.turning.specs.declared.Turning.{Turning}
+use Rattle.turning.specs.Turning.{Held, shown, turned}
+use Rattle.turning.proofs.Shown.{shown-tick, shown-edges}
 use Rattle.gates.specs.declared.Gates.{Gates}
 use Rattle.gates.specs.Gates.{gateOf}
 use Rattle.clocking.specs.declared.Ran.{Ran}
@@ -73,3 +76,30 @@ module _ {gates : Gates} {rate internal a₀ sum gate n edges more : ℕ} {g₀ 
 
   pub going-done : internal ≤ sum + rate → ranSo next (bitOr gate more) (sum + rate - internal) (n + 1) ≡ ticked gates rate internal g₀ a₀
   going-done h = ap (takenOff internal) step ∙ going-ends i h
+
+-- the same as the code has it: what ticks stands for the generators
+pub record Turns (gates : Gates) (rate internal a₀ : ℕ) (t₀ t : Turning) (gate sum n : ℕ) : Type 0 where
+  pub held : Held t
+  pub going : Going gates rate internal (shown t₀) a₀ (ranSo (shown t) gate sum n)
+
+pub turns-start : {gates : Gates} {rate internal a : ℕ} {t : Turning} → Held t → ClocksRun a rate internal → Turns gates rate internal a t t 0 a 0
+turns-start h k = record { held = h; going = going-start k }
+
+module _ {gates : Gates} {rate internal a₀ sum gate n more : ℕ} {t₀ t next : Turning} (i : Turns gates rate internal a₀ t₀ t gate sum n)
+    (e : next ≡ turned t) (h : Held next) (m : more ≡ gateOf gates (next .edges) (next .output)) where
+  ticks : shown next ≡ tick (shown t)
+  ticks = ap shown e ∙ shown-tick t
+
+  side : next .edges ≡ edgesOf (shown next)
+  side = sym (shown-edges next (h .edges))
+
+  heard : more ≡ gateOf gates (next .edges) (shown next .noise .output)
+  unfolding shown
+  heard = m
+
+  pub turns-next : sum + rate < internal → Turns gates rate internal a₀ t₀ next (bitOr gate more) (sum + rate) (n + 1)
+  turns-next q = record { held = h; going = going-next (i .going) ticks side heard q }
+
+  pub turns-done : {g g₀ : Generators} → internal ≤ sum + rate → g ≡ shown next → shown t₀ ≡ g₀
+      → ranSo g (bitOr gate more) (sum + rate - internal) (n + 1) ≡ ticked gates rate internal g₀ a₀
+  turns-done q same began = rw (same, sym began) (going-done (i .going) ticks side heard q)

@@ -20,11 +20,15 @@ left c q =
     let d = drain (endOf c) (c .voice) q in
     record { voice = d .voice; head = d .queue .head; count = d .queue .count }
 
+-- a drain leaves the voice in range
+pub drained-voice : (c : Core) (q : Queue) {d : Drained} → d ≡ left c q → CoreInRange c → VoiceInRange (d .voice)
+drained-voice c q e h = rw e (drained-in (endOf c) q (h .voice))
+
 module _ (c : Core) (q : Queue) {d : Drained} {r : Ran} (e : d ≡ left c q)
     (f : r ≡ ticked (d .voice .gates) (c .clocks .rate) (c .clocks .internal) (d .voice .generators) (c .accumulator)) where
   pub run-in : CoreInRange c → EnvelopeInRange (r .generators .envelope)
   run-in h =
-      let v : VoiceInRange (d .voice) = rw e (drained-in (endOf c) q (h .voice)) in
+      let v : VoiceInRange (d .voice) = drained-voice c q e h in
       rw f (ticked-in (d .voice .gates) (c .clocks .rate) (c .clocks .internal) (c .accumulator) (v .generators) .envelope)
 
   pub word-is : {m : Mixed} → m ≡ mixedOf (c .channels) (withGenerators (r .generators) (d .voice)) (r .gate)

@@ -5,6 +5,7 @@ ghost use lib.ListN.{length};
 ghost use Rattle.tables.specs.Envelope.{FollowsRule};
 ghost use Rattle.tables.specs.Levels.{levels};
 ghost use Rattle.envelope.specs.Range.{EnvelopeInRange};
+ghost use Rattle.generators.specs.Range.{GeneratorsInRange};
 ghost use Rattle.queue.specs.Waiting.{ring, QueueInRange};
 ghost use Rattle.clocking.specs.Ticks.{ticked, ClocksRun};
 ghost use Rattle.clocking.specs.Word.{mixedOf, wordOf, smallOf, blockOf, wordsOf, CoreInRange};
@@ -14,6 +15,7 @@ use mixer::Channels;
 use mixer::Mixed;
 use queue::Queue;
 use registers::Voice;
+use turning::Turning;
 
 // Accepted clocks and their quotients: the internal clock is a tick's, and `cycles` are the CPU's in a word.
 pub struct Clocks {
@@ -75,15 +77,16 @@ pub fn run_ticks(
     internal: u32,
 ) -> Ran
     requires { ⌜ ClocksRun accumulator rate internal ⌝ }
+    requires { ⌜ GeneratorsInRange generators ⌝ }
     ensures { λ r. ⌜ r ≡ ticked gates rate internal generators accumulator ⌝ }
 {
-    let mut g = generators;
+    let mut turning = Turning::of(generators);
     let mut sum = accumulator;
     let mut gathered: u32 = 0;
     let mut n: u32 = 0;
     let taken = loop {
-        g = g.tick();
-        gathered = gathered | gates.gate(g.edges(), g.noise.output);
+        turning = turning.tick();
+        gathered = gathered | gates.gate(turning.edges, turning.output);
         sum = sum + rate;
         n = n + 1;
         if sum >= internal {
@@ -93,8 +96,9 @@ pub fn run_ticks(
             };
         }
     };
+    let after = turning.generators();
     Ran {
-        generators: g,
+        generators: after,
         gate: taken.gate,
         accumulator: taken.accumulator,
         ticks: n,

@@ -30,6 +30,9 @@ use Rattle.generators.proofs.Generators.tick as generators-tick
 use Rattle.generators.proofs.Generators.edges as generators-edges
 use Rattle.generators.proofs.power_on_edges as power-on-edges
 use Rattle.generators.proofs.random_seed as random-seed
+use Rattle.turning.proofs.Turning.of as turning-of
+use Rattle.turning.proofs.Turning.tick as turning-tick
+use Rattle.turning.proofs.Turning.generators as turning-generators
 use Rattle.gates.proofs.Gates.from_register as gates-from-register
 use Rattle.gates.proofs.Gates.gate as gates-gate
 use Rattle.channel.proofs.level_used as level-used
@@ -98,6 +101,9 @@ pub record Parts : Type 2 where
   pub generators-edges : Settles generators-edges.ended (λ M. generators-edges.clauses)
   pub power-on-edges : Settles power-on-edges.ended (λ M. power-on-edges.clauses)
   pub random-seed : Settles random-seed.ended (λ M. random-seed.clauses)
+  pub turning-of : Settles turning-of.ended (λ M. turning-of.clauses)
+  pub turning-tick : Settles turning-tick.ended (λ M. turning-tick.clauses)
+  pub turning-generators : Settles turning-generators.ended (λ M. turning-generators.clauses)
   pub gates-from-register : Settles gates-from-register.ended (λ M. gates-from-register.clauses)
   pub gates-gate : Settles gates-gate.ended (λ M. gates-gate.clauses)
   pub level-used : Settles level-used.ended (λ M. level-used.clauses)

@@ -1,5 +1,5 @@
 -- `clocking::word` meets its contract: `proofs/Wording.antt` makes the word of what its calls give. Assumes nothing.
-use Rattle.clocking.proofs.Wording.{run-in, word-is}
+use Rattle.clocking.proofs.Wording.{drained-voice, run-in, word-is}
 use borrow.Author.Needs.{needs}
 use Rattle.clocking.proofs.word.Statement.{statement}
 use Rattle.clocking.proofs.word.Tie as tie
@@ -11,7 +11,9 @@ drain-requires : tie.Need-drain-requires
 drain-requires c κs = search needs
 
 run-ticks-requires : tie.Need-run-ticks-requires
-run-ticks-requires c κs = search needs
+run-ticks-requires c κs =
+    let start = c .before .before .before in
+    (start .pre .0 .run, drained-voice _ _ (c .before .drain .ensures .small) (start .pre .0) .generators)
 
 mix-word-requires : tie.Need-mix-word-requires
 mix-word-requires c κs =
