@@ -4,3 +4,4 @@ pub mod Laws
 pub mod Draining
 pub mod Flushing
 pub mod Range
+pub mod Volumes
