@@ -80,7 +80,7 @@ impl Envelope {
     }
 }
 
-fn next_position(position: i32) -> i32
+pub fn next_position(position: i32) -> i32
     ensures { λ r. ⌜ r ≡ nextPosition position ⌝ }
 {
     if position < 63 { position + 1 } else { 0 }

@@ -16,12 +16,16 @@ use Rattle.tone.proofs.Tone.reset as tone-reset
 use Rattle.noise.proofs.Noise.set_period as noise-set-period
 use Rattle.noise.proofs.Noise.tick as noise-tick
 use Rattle.noise.proofs.Noise.reset as noise-reset
+use Rattle.noise.proofs.at_least_one as at-least-one
+use Rattle.noise.proofs.noise_step as noise-step
+use Rattle.noise.proofs.noise_output as noise-output
 use Rattle.envelope.proofs.Envelope.set_period as envelope-set-period
 use Rattle.envelope.proofs.Envelope.set_shape as envelope-set-shape
 use Rattle.envelope.proofs.Envelope.trigger as envelope-trigger
 use Rattle.envelope.proofs.Envelope.tick as envelope-tick
 use Rattle.envelope.proofs.Envelope.level as envelope-level
 use Rattle.envelope.proofs.Envelope.reset as envelope-reset
+use Rattle.envelope.proofs.next_position as next-position
 use Rattle.generators.proofs.Generators.new as generators-new
 use Rattle.generators.proofs.Generators.reset as generators-reset
 use Rattle.generators.proofs.Generators.set_tone_period as generators-set-tone-period
@@ -87,12 +91,16 @@ pub record Parts : Type 2 where
   pub noise-set-period : Settles noise-set-period.ended (λ M. noise-set-period.clauses)
   pub noise-tick : Settles noise-tick.ended (λ M. noise-tick.clauses)
   pub noise-reset : Settles noise-reset.ended (λ M. noise-reset.clauses)
+  pub at-least-one : Settles at-least-one.ended (λ M. at-least-one.clauses)
+  pub noise-step : Settles noise-step.ended (λ M. noise-step.clauses)
+  pub noise-output : Settles noise-output.ended (λ M. noise-output.clauses)
   pub envelope-set-period : Settles envelope-set-period.ended (λ M. envelope-set-period.clauses)
   pub envelope-set-shape : Settles envelope-set-shape.ended (λ M. envelope-set-shape.clauses)
   pub envelope-trigger : Settles envelope-trigger.ended (λ M. envelope-trigger.clauses)
   pub envelope-tick : Settles envelope-tick.ended (λ M. envelope-tick.clauses)
   pub envelope-level : Settles envelope-level.ended (λ M. envelope-level.clauses)
   pub envelope-reset : Settles envelope-reset.ended (λ M. envelope-reset.clauses)
+  pub next-position : Settles next-position.ended (λ M. next-position.clauses)
   pub generators-new : Settles generators-new.ended (λ M. generators-new.clauses)
   pub generators-reset : Settles generators-reset.ended (λ M. generators-reset.clauses)
   pub generators-set-tone-period : Settles generators-set-tone-period.ended (λ M. generators-set-tone-period.clauses)

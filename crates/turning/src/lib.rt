@@ -1,9 +1,6 @@
 // The generators while the ticks of a word run: counters of 32 bits, and the edges of the three tones in one word, so that all of it
 // stays in the machine's registers. It means generators (`shown`), and its tick is theirs (`shown-tick` of proofs/Shown.antt).
 ghost use mathlib.Core.Path.{_≡_};
-ghost use Prim.Native.Nat.{_≤_, max};
-ghost use Rattle.noise.specs.Noise.{outputBy, registerStep};
-ghost use Rattle.envelope.specs.Envelope.{nextPosition};
 ghost use Rattle.generators.specs.Range.{GeneratorsInRange};
 ghost use Rattle.turning.specs.Turning.{Held, aTurned, bTurned, cTurned, envelopeTurned, noiseTurned, shown, turned, turningOf};
 use generators::Generators;
@@ -143,7 +140,7 @@ impl Turning {
         if count < period as u32 {
             next.envelope = count;
         } else {
-            let position = next_position(self.position);
+            let position = envelope::next_position(self.position);
             next.envelope = 0;
             next.position = position;
         }
@@ -162,45 +159,15 @@ impl Turning {
         }
         next.half = true;
         let count = self.noise + 1;
-        if count < at_least_one(self.rest.noise.period) {
+        if count < noise::at_least_one(self.rest.noise.period) {
             next.noise = count;
             return next;
         }
-        let register = noise_step(self.register);
-        let output = noise_output(self.register);
+        let register = noise::noise_step(self.register);
+        let output = noise::noise_output(self.register);
         next.noise = 0;
         next.register = register;
         next.output = output;
         next
     }
-}
-
-fn next_position(position: i32) -> i32
-    ensures { λ r. ⌜ r ≡ nextPosition position ⌝ }
-{
-    if position < 63 { position + 1 } else { 0 }
-}
-
-// 01: "on reaching max(period, 1)"
-fn at_least_one(period: u8) -> u32
-    ensures same { λ r. ⌜ r ≡ max period 1 ⌝ }
-    ensures small { λ r. ⌜ r ≤ 255 ⌝ }
-{
-    if period < 1 { 1 } else { period as u32 }
-}
-
-fn noise_step(register: u32) -> u32
-    ensures { λ r. ⌜ r ≡ registerStep register ⌝ }
-{
-    if register % 2 == 1 {
-        (register >> 1) ^ 0x12000
-    } else {
-        register >> 1
-    }
-}
-
-fn noise_output(register: u32) -> u32
-    ensures { λ r. ⌜ r ≡ outputBy register ⌝ }
-{
-    if register % 2 == 1 { 0xffff_ffff } else { 0 }
 }

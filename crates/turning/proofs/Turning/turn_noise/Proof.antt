@@ -21,7 +21,7 @@ at-least-one-requires c κs = search needs
 returns-2 : tie.Need-returns-2
 returns-2 c =
     let start = c .before .before .before .before in
-    (search counts, held-noise _ _ _ _ (start .pre) (omega (arith, c .before .at-least-one .ensures .1)))
+    (search counts, held-noise _ _ _ _ (start .pre) (omega (arith, c .before .at-least-one .ensures, c .before .before .struct-known .given)))
 
 noise-step-requires : tie.Need-noise-step-requires
 noise-step-requires c κs = search needs
