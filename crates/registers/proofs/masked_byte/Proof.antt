@@ -10,7 +10,7 @@ register-mask-requires c κs = search needs
 
 returns : tie.Need-returns
 unfolding masked
-returns c = cc
+returns c = rw (c .register-mask .ensures)
 
 pub masked-byte-spec : {M : Type 1} → statement M
 masked-byte-spec = tie.close (tie.spec register-mask-requires returns)

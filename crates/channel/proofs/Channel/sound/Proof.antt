@@ -16,7 +16,7 @@ compute-output-requires c κs = rw (c .gated-level .ensures, c .before .level-us
 
 returns : tie.Need-returns
 unfolding sounded
-returns c = cc
+returns c = rw (c .compute-output .ensures, c .before .gated-level .ensures, c .before .before .level-used .ensures)
 
 pub sound-spec : {M : Type 1} → statement M
 sound-spec =

@@ -15,7 +15,7 @@ line-at-requires c κs = search needs
 
 returns : tie.Need-returns
 unfolding entryAt
-returns c = cc
+returns c = rw (c .line-at .ensures, c .before .decimal .ensures, c .before .before .value-at .ensures)
 
 pub entry-at-spec : {M : Type 1} → statement M
 entry-at-spec = tie.close (tie.spec value-at-requires decimal-requires line-at-requires returns)

@@ -15,7 +15,7 @@ is-frame-requires c κs = search needs
 
 returns : tie.Need-returns
 unfolding frameAt
-returns c = cc
+returns c = rw (c .is-frame .ensures, c .before .value-at .ensures)
 
 pub frame-at-spec : {M : Type 1} → statement M
 frame-at-spec =

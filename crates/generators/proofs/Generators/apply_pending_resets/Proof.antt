@@ -17,7 +17,7 @@ apply-pending-reset-requires-3 c κs = search needs
 
 returns : tie.Need-returns
 unfolding tonesReleased
-returns c = cc
+returns c = rw (c .apply-pending-reset3 .ensures, c .before .apply-pending-reset2 .ensures, c .before .before .apply-pending-reset .ensures)
 
 pub apply-pending-resets-spec : {M : Type 1} → statement M
 apply-pending-resets-spec =

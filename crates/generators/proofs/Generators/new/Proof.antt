@@ -12,7 +12,7 @@ reset-requires-2 : tie.Need-reset-requires-2
 reset-requires-2 c κs = search needs
 
 returns : tie.Need-returns
-returns c = cc
+returns c = rw (c .reset2 .ensures, c .before .reset .ensures)
 
 pub new-spec : {M : Type 1} → statement M
 new-spec = tie.close (tie.spec reset-requires reset-requires-2 returns)

@@ -25,7 +25,7 @@ reset-requires-5 c κs = search needs
 
 returns : tie.Need-returns
 unfolding generatorsReset
-returns c = cc
+returns c = rw (c .reset5 .ensures, c .before .reset4 .ensures, c .before .before .reset3 .ensures, c .before .before .before .reset2 .ensures, c .before .before .before .before .reset .ensures, c .before .before .before .before .before .power-on-edges .ensures)
 
 pub reset-spec : {M : Type 1} → statement M
 reset-spec =

@@ -17,7 +17,7 @@ put-requires c κs = search needs
 
 returns : tie.Need-returns
 unfolding tonesSet
-returns c = cc
+returns c = rw (c .put .ensures, c .before .set-period .ensures, c .before .before .at .ensures)
 
 pub set-tone-period-spec : {M : Type 1} → statement M
 set-tone-period-spec = tie.close (tie.spec at-requires set-period-requires put-requires returns)

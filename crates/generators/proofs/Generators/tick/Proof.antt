@@ -25,7 +25,7 @@ tick-requires-5 c κs = search needs
 
 returns : tie.Need-returns
 unfolding tick
-returns c = cc
+returns c = rw (c .tick5 .ensures, c .before .tick4 .ensures, c .before .before .tick3 .ensures, c .before .before .before .tick2 .ensures, c .before .before .before .before .tick .ensures)
 
 pub tick-spec : {M : Type 1} → statement M
 tick-spec =

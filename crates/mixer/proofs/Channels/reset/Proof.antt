@@ -13,7 +13,7 @@ reset-requires-3 : tie.Need-reset-requires-3
 reset-requires-3 c κs = search needs
 
 returns : tie.Need-returns
-returns c = cc
+returns c = rw (c .reset3 .ensures, c .before .reset2 .ensures, c .before .before .reset .ensures)
 
 pub reset-spec : {M : Type 1} → statement M
 reset-spec = tie.close (tie.spec reset-requires reset-requires-2 reset-requires-3 returns)

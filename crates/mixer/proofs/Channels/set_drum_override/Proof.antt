@@ -15,7 +15,7 @@ put-requires c κs = search needs
 
 returns : tie.Need-returns
 unfolding setDrum
-returns c = cc
+returns c = rw (c .put .ensures, c .before .with-drum .ensures, c .before .before .at .ensures)
 
 pub set-drum-override-spec : {M : Type 1} → statement M
 set-drum-override-spec = tie.close (tie.spec at-requires with-drum-requires put-requires returns)

@@ -15,7 +15,7 @@ put-requires c κs = search needs
 
 returns : tie.Need-returns
 unfolding setMute
-returns c = cc
+returns c = rw (c .put .ensures, c .before .with-mute .ensures, c .before .before .at .ensures)
 
 pub set-mute-spec : {M : Type 1} → statement M
 set-mute-spec = tie.close (tie.spec at-requires with-mute-requires put-requires returns)

@@ -13,7 +13,7 @@ reset-requires : tie.Need-reset-requires
 reset-requires c κs = search needs
 
 returns : tie.Need-returns
-returns c = cc
+returns c = rw (c .reset .ensures, c .before .new .ensures)
 
 pub new-spec : {M : Type 1} → statement M
 new-spec = tie.close (tie.spec new-requires reset-requires returns)

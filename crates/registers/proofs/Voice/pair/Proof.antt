@@ -19,7 +19,7 @@ joined-requires c κs = search needs
 
 returns : tie.Need-returns
 unfolding pairAt
-returns c = cc
+returns c = rw (c .joined .ensures)
 
 pub pair-spec : {M : Type 1} → statement M
 pair-spec =

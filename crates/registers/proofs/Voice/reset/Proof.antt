@@ -14,7 +14,7 @@ apply-register-requires c κs = search needs
 
 returns : tie.Need-returns
 unfolding voiceReset
-returns c = cc
+returns c = rw (c .apply-register .ensures, c .before .reset .ensures)
 
 pub reset-spec : {M : Type 1} → statement M
 reset-spec = tie.close (tie.spec reset-requires apply-register-requires returns)

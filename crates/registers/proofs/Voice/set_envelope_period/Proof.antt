@@ -13,7 +13,7 @@ set-period-requires c κs = search needs
 
 returns : tie.Need-returns
 unfolding envelopePeriodSet
-returns c = cc
+returns c = rw (c .set-period .ensures, c .before .before .pair .ensures)
 
 pub set-envelope-period-spec : {M : Type 1} → statement M
 set-envelope-period-spec = tie.close (tie.spec pair-requires set-period-requires returns)

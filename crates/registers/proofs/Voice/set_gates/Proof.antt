@@ -13,7 +13,7 @@ from-register-requires c κs = search needs
 
 returns : tie.Need-returns
 unfolding gatesSet
-returns c = cc
+returns c = rw (c .from-register .ensures)
 
 pub set-gates-spec : {M : Type 1} → statement M
 set-gates-spec = tie.close (tie.spec element-copy-out-from-register from-register-requires returns)

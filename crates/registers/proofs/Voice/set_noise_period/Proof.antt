@@ -13,7 +13,7 @@ set-period-requires c κs = search needs
 
 returns : tie.Need-returns
 unfolding noisePeriodSet
-returns c = cc
+returns c = rw (c .set-period .ensures)
 
 pub set-noise-period-spec : {M : Type 1} → statement M
 set-noise-period-spec =

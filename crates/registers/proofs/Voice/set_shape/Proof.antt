@@ -13,7 +13,7 @@ set-shape-requires c κs = search needs
 
 returns : tie.Need-returns
 unfolding shapeSet
-returns c = cc
+returns c = rw (c .set-shape .ensures)
 
 pub set-shape-spec : {M : Type 1} → statement M
 set-shape-spec = tie.close (tie.spec element-copy-out-set-shape set-shape-requires returns)

@@ -16,7 +16,7 @@ set-tone-period-requires c κs = search needs
 
 returns : tie.Need-returns
 unfolding tonePeriodSet
-returns c = cc
+returns c = rw (c .set-tone-period .ensures, c .before .pair .ensures)
 
 pub set-tone-period-spec : {M : Type 1} → statement M
 set-tone-period-spec = tie.close (tie.spec mul-pair pair-requires set-tone-period-requires returns)
