@@ -2,27 +2,27 @@
 // Calls that only read take `&Chip` and stand last.
 ghost use mathlib.Core.Path.{_≡_};
 ghost use lib.ListN.{length};
-ghost use Rattle.making.specs.Making.{resetCall};
-ghost use Rattle.register_calls.specs.Stored.{dumpRegisters, loadRegisters, readRegister, writeRegister};
-ghost use Rattle.port_calls.specs.Ports.{readPort, writePort, writePortImmediate};
-ghost use Rattle.cycle_calls.specs.Cycles.{cpuCycle, flushPendingWrites, pendingWriteCount, setCpuCycle, syncSampleCycle};
-ghost use Rattle.effect_calls.specs.Effects.{getChannelOutputs, isChannelMuted, setChannelMute, setDrumSampleOverride, setTimerIrqState, triggerEnvelope};
-ghost use Rattle.word_calls.specs.Blocks.{blockBuffer, blocked, sampled};
-use calls::Byte;
-use calls::Bytes;
-use calls::Count;
-use calls::Cycle;
-use calls::Flag;
-use calls::Outputs;
-use calls::Played;
-use calls::Sample;
+ghost use Rattle.calls_making.specs.Making.{resetCall};
+ghost use Rattle.calls_registers.specs.Stored.{dumpRegisters, loadRegisters, readRegister, writeRegister};
+ghost use Rattle.calls_ports.specs.Ports.{readPort, writePort, writePortImmediate};
+ghost use Rattle.calls_cycles.specs.Cycles.{cpuCycle, flushPendingWrites, pendingWriteCount, setCpuCycle, syncSampleCycle};
+ghost use Rattle.calls_effects.specs.Effects.{getChannelOutputs, isChannelMuted, setChannelMute, setDrumSampleOverride, setTimerIrqState, triggerEnvelope};
+ghost use Rattle.calls_words.specs.Blocks.{blockBuffer, blocked, sampled};
+use answers::Byte;
+use answers::Bytes;
+use answers::Count;
+use answers::Cycle;
+use answers::Flag;
+use answers::Outputs;
+use answers::Played;
+use answers::Sample;
 use channel::Drum;
 use clocking::Chip;
 
 pub fn reset(chip: &mut Chip) -> u8
     ensures { λ r. ⌜ (r ≡ resetCall (now (chip .entry)) .no) × (now (chip .exit) ≡ resetCall (now (chip .entry)) .chip) ⌝ }
 {
-    let r = making::reset(*chip);
+    let r = calls_making::reset(*chip);
     *chip = r.chip;
     r.no
 }
@@ -31,7 +31,7 @@ pub fn write_register(chip: &mut Chip, register: u8, value: u8) -> u8
     ensures { λ r. ⌜ (r ≡ writeRegister register value (now (chip .entry)) .no)
         × (now (chip .exit) ≡ writeRegister register value (now (chip .entry)) .chip) ⌝ }
 {
-    let r = register_calls::write_register(*chip, register, value);
+    let r = calls_registers::write_register(*chip, register, value);
     *chip = r.chip;
     r.no
 }
@@ -40,7 +40,7 @@ pub fn load_registers(chip: &mut Chip, bytes: [u8; 16]) -> u8
     ensures { λ r. ⌜ (r ≡ loadRegisters bytes (now (chip .entry)) .no)
         × (now (chip .exit) ≡ loadRegisters bytes (now (chip .entry)) .chip) ⌝ }
 {
-    let r = register_calls::load_registers(*chip, bytes);
+    let r = calls_registers::load_registers(*chip, bytes);
     *chip = r.chip;
     r.no
 }
@@ -49,7 +49,7 @@ pub fn write_port(chip: &mut Chip, port: u8, value: u8) -> u8
     ensures { λ r. ⌜ (r ≡ writePort port value (now (chip .entry)) .no)
         × (now (chip .exit) ≡ writePort port value (now (chip .entry)) .chip) ⌝ }
 {
-    let r = port_calls::write_port(*chip, port, value);
+    let r = calls_ports::write_port(*chip, port, value);
     *chip = r.chip;
     r.no
 }
@@ -58,7 +58,7 @@ pub fn write_port_immediate(chip: &mut Chip, port: u8, value: u8) -> u8
     ensures { λ r. ⌜ (r ≡ writePortImmediate port value (now (chip .entry)) .no)
         × (now (chip .exit) ≡ writePortImmediate port value (now (chip .entry)) .chip) ⌝ }
 {
-    let r = port_calls::write_port_immediate(*chip, port, value);
+    let r = calls_ports::write_port_immediate(*chip, port, value);
     *chip = r.chip;
     r.no
 }
@@ -67,7 +67,7 @@ pub fn set_cpu_cycle(chip: &mut Chip, cycle: u64) -> u8
     ensures { λ r. ⌜ (r ≡ setCpuCycle cycle (now (chip .entry)) .no)
         × (now (chip .exit) ≡ setCpuCycle cycle (now (chip .entry)) .chip) ⌝ }
 {
-    let r = cycle_calls::set_cpu_cycle(*chip, cycle);
+    let r = calls_cycles::set_cpu_cycle(*chip, cycle);
     *chip = r.chip;
     r.no
 }
@@ -76,7 +76,7 @@ pub fn sync_sample_cycle(chip: &mut Chip, cycle: u64) -> u8
     ensures { λ r. ⌜ (r ≡ syncSampleCycle cycle (now (chip .entry)) .no)
         × (now (chip .exit) ≡ syncSampleCycle cycle (now (chip .entry)) .chip) ⌝ }
 {
-    let r = cycle_calls::sync_sample_cycle(*chip, cycle);
+    let r = calls_cycles::sync_sample_cycle(*chip, cycle);
     *chip = r.chip;
     r.no
 }
@@ -85,7 +85,7 @@ pub fn flush_pending_writes(chip: &mut Chip) -> u8
     ensures { λ r. ⌜ (r ≡ flushPendingWrites (now (chip .entry)) .no)
         × (now (chip .exit) ≡ flushPendingWrites (now (chip .entry)) .chip) ⌝ }
 {
-    let r = cycle_calls::flush_pending_writes(*chip);
+    let r = calls_cycles::flush_pending_writes(*chip);
     *chip = r.chip;
     r.no
 }
@@ -94,7 +94,7 @@ pub fn set_timer_irq_state(chip: &mut Chip, on: bool) -> u8
     ensures { λ r. ⌜ (r ≡ setTimerIrqState on (now (chip .entry)) .no)
         × (now (chip .exit) ≡ setTimerIrqState on (now (chip .entry)) .chip) ⌝ }
 {
-    let r = effect_calls::set_timer_irq_state(*chip, on);
+    let r = calls_effects::set_timer_irq_state(*chip, on);
     *chip = r.chip;
     r.no
 }
@@ -103,7 +103,7 @@ pub fn inside_timer_irq(chip: &mut Chip, inside: bool) -> u8
     ensures { λ r. ⌜ (r ≡ setTimerIrqState inside (now (chip .entry)) .no)
         × (now (chip .exit) ≡ setTimerIrqState inside (now (chip .entry)) .chip) ⌝ }
 {
-    let r = effect_calls::inside_timer_irq(*chip, inside);
+    let r = calls_effects::inside_timer_irq(*chip, inside);
     *chip = r.chip;
     r.no
 }
@@ -112,7 +112,7 @@ pub fn trigger_envelope(chip: &mut Chip) -> u8
     ensures { λ r. ⌜ (r ≡ triggerEnvelope (now (chip .entry)) .no)
         × (now (chip .exit) ≡ triggerEnvelope (now (chip .entry)) .chip) ⌝ }
 {
-    let r = effect_calls::trigger_envelope(*chip);
+    let r = calls_effects::trigger_envelope(*chip);
     *chip = r.chip;
     r.no
 }
@@ -121,7 +121,7 @@ pub fn set_channel_mute(chip: &mut Chip, channel: usize, muted: bool) -> u8
     ensures { λ r. ⌜ (r ≡ setChannelMute channel muted (now (chip .entry)) .no)
         × (now (chip .exit) ≡ setChannelMute channel muted (now (chip .entry)) .chip) ⌝ }
 {
-    let r = effect_calls::set_channel_mute(*chip, channel, muted);
+    let r = calls_effects::set_channel_mute(*chip, channel, muted);
     *chip = r.chip;
     r.no
 }
@@ -130,7 +130,7 @@ pub fn set_drum_sample_override(chip: &mut Chip, channel: usize, drum: Drum) -> 
     ensures { λ r. ⌜ (r ≡ setDrumSampleOverride channel drum (now (chip .entry)) .no)
         × (now (chip .exit) ≡ setDrumSampleOverride channel drum (now (chip .entry)) .chip) ⌝ }
 {
-    let r = effect_calls::set_drum_sample_override(*chip, channel, drum);
+    let r = calls_effects::set_drum_sample_override(*chip, channel, drum);
     *chip = r.chip;
     r.no
 }
@@ -138,7 +138,7 @@ pub fn set_drum_sample_override(chip: &mut Chip, channel: usize, drum: Drum) -> 
 pub fn compute_next_sample(chip: &mut Chip) -> Sample
     ensures { λ r. ⌜ (r ≡ sampled (now (chip .entry)) .answer) × (now (chip .exit) ≡ sampled (now (chip .entry)) .chip) ⌝ }
 {
-    let r = word_calls::compute_next_sample(*chip);
+    let r = calls_words::compute_next_sample(*chip);
     *chip = r.chip;
     r.answer
 }
@@ -148,7 +148,7 @@ pub fn block(chip: &mut Chip, out: &mut [u16]) -> Played
         × (now (chip .exit) ≡ blocked (length (now (out .entry))) (now (chip .entry)) .chip)
         × (now (out .exit) ≡ blockBuffer (now (out .entry)) (now (chip .entry))) ⌝ }
 {
-    let r = word_calls::block(*chip, out);
+    let r = calls_words::block(*chip, out);
     *chip = r.chip;
     r.answer
 }
@@ -156,41 +156,41 @@ pub fn block(chip: &mut Chip, out: &mut [u16]) -> Played
 pub fn read_register(chip: &Chip, register: u8) -> Byte
     ensures { λ r. ⌜ r ≡ readRegister register (now (chip .entry)) ⌝ }
 {
-    register_calls::read_register(*chip, register)
+    calls_registers::read_register(*chip, register)
 }
 
 pub fn dump_registers(chip: &Chip) -> Bytes
     ensures { λ r. ⌜ r ≡ dumpRegisters (now (chip .entry)) ⌝ }
 {
-    register_calls::dump_registers(*chip)
+    calls_registers::dump_registers(*chip)
 }
 
 pub fn read_port(chip: &Chip, port: u8) -> Byte
     ensures { λ r. ⌜ r ≡ readPort port (now (chip .entry)) ⌝ }
 {
-    port_calls::read_port(*chip, port)
+    calls_ports::read_port(*chip, port)
 }
 
 pub fn cpu_cycle(chip: &Chip) -> Cycle
     ensures { λ r. ⌜ r ≡ cpuCycle (now (chip .entry)) ⌝ }
 {
-    cycle_calls::cpu_cycle(*chip)
+    calls_cycles::cpu_cycle(*chip)
 }
 
 pub fn pending_write_count(chip: &Chip) -> Count
     ensures { λ r. ⌜ r ≡ pendingWriteCount (now (chip .entry)) ⌝ }
 {
-    cycle_calls::pending_write_count(*chip)
+    calls_cycles::pending_write_count(*chip)
 }
 
 pub fn is_channel_muted(chip: &Chip, channel: usize) -> Flag
     ensures { λ r. ⌜ r ≡ isChannelMuted channel (now (chip .entry)) ⌝ }
 {
-    effect_calls::is_channel_muted(*chip, channel)
+    calls_effects::is_channel_muted(*chip, channel)
 }
 
 pub fn get_channel_outputs(chip: &Chip) -> Outputs
     ensures { λ r. ⌜ r ≡ getChannelOutputs (now (chip .entry)) ⌝ }
 {
-    effect_calls::get_channel_outputs(*chip)
+    calls_effects::get_channel_outputs(*chip)
 }

@@ -1,94 +1,38 @@
-// What the calls of the chip answer, and what they share. 01, "Numbers a call can answer".
-ghost use mathlib.Core.Path.{_≡_};
-ghost use Rattle.refusals.specs.Numbers.{accepted, outOfRange};
-ghost use Rattle.calls.specs.Answers.{answered, withVoice};
-use clocking::Chip;
-use registers::Voice;
-
-// The chip after a call, and the call's number.
-pub struct Answered {
-    pub chip: Chip,
-    pub no: u8,
-}
-
-pub struct Byte {
-    pub no: u8,
-    pub value: u8,
-}
-
-pub struct Bytes {
-    pub no: u8,
-    pub bytes: [u8; 16],
-}
-
-pub struct Cycle {
-    pub no: u8,
-    pub cycle: u64,
-}
-
-pub struct Count {
-    pub no: u8,
-    pub count: usize,
-}
-
-pub struct Flag {
-    pub no: u8,
-    pub yes: bool,
-}
-
-pub struct Outputs {
-    pub no: u8,
-    pub a: f32,
-    pub b: f32,
-    pub c: f32,
-}
-
-pub struct Sample {
-    pub no: u8,
-    pub word: u16,
-    pub ticks: u64,
-}
-
-pub struct Sampled {
-    pub chip: Chip,
-    pub answer: Sample,
-}
-
-pub struct Played {
-    pub no: u8,
-    pub words: usize,
-    pub ticks: u64,
-}
-
-pub struct Blocked {
-    pub chip: Chip,
-    pub answer: Played,
-}
-
-pub fn accepted(chip: Chip) -> Answered
-    ensures { λ r. ⌜ r ≡ answered accepted chip ⌝ }
-{
-    Answered {
-        chip,
-        no: refusals::ACCEPTED,
-    }
-}
-
-pub fn refused(chip: Chip) -> Answered
-    ensures { λ r. ⌜ r ≡ answered outOfRange chip ⌝ }
-{
-    Answered {
-        chip,
-        no: refusals::OUT_OF_RANGE,
-    }
-}
-
-pub fn with_voice(chip: Chip, voice: Voice) -> Chip
-    ensures { λ r. ⌜ r ≡ withVoice voice chip ⌝ }
-{
-    let mut core = chip.core;
-    core.voice = voice;
-    let mut after = chip;
-    after.core = core;
-    after
-}
+// The chip as its users see it: the record and every call by value, under one name. Each call is proved in the crate it comes from.
+pub use answers::Answered;
+pub use answers::Blocked;
+pub use answers::Byte;
+pub use answers::Bytes;
+pub use answers::Count;
+pub use answers::Cycle;
+pub use answers::Flag;
+pub use answers::Outputs;
+pub use answers::Played;
+pub use answers::Sample;
+pub use answers::Sampled;
+pub use calls_cycles::cpu_cycle;
+pub use calls_cycles::flush_pending_writes;
+pub use calls_cycles::pending_write_count;
+pub use calls_cycles::set_cpu_cycle;
+pub use calls_cycles::sync_sample_cycle;
+pub use calls_effects::get_channel_outputs;
+pub use calls_effects::inside_timer_irq;
+pub use calls_effects::is_channel_muted;
+pub use calls_effects::set_channel_mute;
+pub use calls_effects::set_drum_sample_override;
+pub use calls_effects::set_timer_irq_state;
+pub use calls_effects::trigger_envelope;
+pub use calls_making::new;
+pub use calls_making::reset;
+pub use calls_making::with_clocks;
+pub use calls_ports::read_port;
+pub use calls_ports::write_port;
+pub use calls_ports::write_port_immediate;
+pub use calls_registers::dump_registers;
+pub use calls_registers::load_registers;
+pub use calls_registers::read_register;
+pub use calls_registers::write_register;
+pub use calls_words::block;
+pub use calls_words::compute_next_sample;
+pub use channel::Drum;
+pub use clocking::Chip;

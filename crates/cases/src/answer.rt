@@ -5,12 +5,12 @@ use generators::Generators;
 use registers::Voice;
 
 pub fn of(chip: Chip) {
-    let answer = cycle_calls::cpu_cycle(chip);
+    let answer = calls_cycles::cpu_cycle(chip);
     say::byte(answer.no);
 }
 
 pub fn of_voice(voice: Voice) {
-    of(calls::with_voice(making::new(), voice));
+    of(answers::with_voice(calls_making::new(), voice));
 }
 
 pub fn of_generators(generators: Generators) {
@@ -20,7 +20,7 @@ pub fn of_generators(generators: Generators) {
 }
 
 pub fn voice() -> Voice {
-    let chip = making::new();
+    let chip = calls_making::new();
     chip.core.voice
 }
 

@@ -29,7 +29,7 @@ pub fn block(chip: Chip, out: &mut [u16]) {
 }
 
 fn played(chip: Chip, out: &mut [u16]) {
-    let after = word_calls::block(chip, out);
+    let after = calls_words::block(chip, out);
     let answer = after.answer;
     say::byte(answer.no);
     say::text(b",");
@@ -71,7 +71,7 @@ fn words() {
 }
 
 pub fn word(chip: Chip) {
-    let after = word_calls::compute_next_sample(chip);
+    let after = calls_words::compute_next_sample(chip);
     say::text(b" word");
     say::byte(after.answer.no);
     say::text(b",");
@@ -82,10 +82,10 @@ pub fn word(chip: Chip) {
 }
 
 fn two(chip: Chip) {
-    let first = word_calls::compute_next_sample(chip);
+    let first = calls_words::compute_next_sample(chip);
     say::text(b" word");
     say::byte(first.answer.no);
-    let second = word_calls::compute_next_sample(first.chip);
+    let second = calls_words::compute_next_sample(first.chip);
     say::text(b", word");
     say::byte(second.answer.no);
     say::text(b", end");

@@ -16,13 +16,13 @@ pub fn show() {
 }
 
 pub fn with_core(core: Core) -> Chip {
-    let mut chip = making::new();
+    let mut chip = calls_making::new();
     chip.core = core;
     chip
 }
 
 pub fn core() -> Core {
-    let chip = making::new();
+    let chip = calls_making::new();
     chip.core
 }
 

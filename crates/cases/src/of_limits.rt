@@ -15,17 +15,17 @@ pub fn show() {
 
 fn register_14() {
     let chip = steps::selected(14);
-    let port = port_calls::read_port(chip, 0);
+    let port = calls_ports::read_port(chip, 0);
     say::text(b"select 14: read_port(0)");
     say::byte(port.value);
-    let written = register_calls::write_register(chip, 14, 9);
+    let written = calls_registers::write_register(chip, 14, 9);
     say::text(b", write");
     say::no(written);
     read_14(written.chip);
 }
 
 fn queued_14() {
-    let queued = port_calls::write_port(steps::selected(14), 2, 9);
+    let queued = calls_ports::write_port(steps::selected(14), 2, 9);
     say::text(b"select 14, write queued:");
     say::no(queued);
     of_queue::waiting(queued.chip);
@@ -35,7 +35,7 @@ fn queued_14() {
 fn read_14(chip: Chip) {
     say::text(b", read");
     of_queue::read(chip, 14);
-    let dump = register_calls::dump_registers(chip);
+    let dump = calls_registers::dump_registers(chip);
     let bytes = dump.bytes;
     say::text(b", dump byte 14");
     say::byte(bytes[14]);
@@ -57,7 +57,7 @@ fn clocks(master: u32, rate: u32) {
     say::number(master as u64);
     say::number(rate as u64);
     say::text(b":");
-    let answer = making::with_clocks(master, rate);
+    let answer = calls_making::with_clocks(master, rate);
     say::no(answer);
     made(answer.chip);
 }
@@ -76,13 +76,17 @@ fn made(chip: Chip) {
 fn channel(n: u8) {
     say::text(b"channel");
     say::byte(n);
-    let muted = effect_calls::set_channel_mute(making::new(), n as usize, true);
+    let muted = calls_effects::set_channel_mute(calls_making::new(), n as usize, true);
     say::text(b": mute");
     say::no(muted);
-    let drum = effect_calls::set_drum_sample_override(making::new(), n as usize, Drum::Sample(1.0));
+    let drum = calls_effects::set_drum_sample_override(
+        calls_making::new(),
+        n as usize,
+        Drum::Sample(1.0),
+    );
     say::text(b", drum");
     say::no(drum);
-    let asked = effect_calls::is_channel_muted(muted.chip, n as usize);
+    let asked = calls_effects::is_channel_muted(muted.chip, n as usize);
     say::text(b", muted");
     say::flag(asked.yes);
     say::end();

@@ -12,20 +12,20 @@ pub fn show() {
 
 fn fresh() {
     say::text(b"queue, room for 256:");
-    full(making::new(), 255);
+    full(calls_making::new(), 255);
 }
 
 // The ring's place is 200 from here on, and 256 writes go round its end.
 fn drained() {
     say::text(b"queue, 200 drained by a word, room for 256:");
-    let chip = filled(making::new(), 200);
+    let chip = filled(calls_making::new(), 200);
     full(steps::next(chip), 255);
 }
 
 fn partly_drained() {
     say::text(b"queue, 200 drained and 56 later, room for 200:");
-    let due = filled(making::new(), 200);
-    let later = cycle_calls::set_cpu_cycle(due, 500);
+    let due = filled(calls_making::new(), 200);
+    let later = calls_cycles::set_cpu_cycle(due, 500);
     let chip = filled(later.chip, 56);
     full(steps::next(chip), 199);
 }
@@ -33,10 +33,10 @@ fn partly_drained() {
 // The selection is 0: the last value in order is what R0 reads after the flush.
 fn full(chip: Chip, writes: u8) {
     let most = filled(chip, writes as u64);
-    let last = port_calls::write_port(most, 2, writes);
+    let last = calls_ports::write_port(most, 2, writes);
     say::text(b" last");
     say::no(last);
-    let next = port_calls::write_port(last.chip, 2, 99);
+    let next = calls_ports::write_port(last.chip, 2, 99);
     say::text(b", next");
     say::no(next);
     waiting(next.chip);
@@ -47,7 +47,7 @@ fn used_again(chip: Chip) {
     let empty = flushed(chip);
     say::text(b", R0");
     read(empty, 0);
-    let again = port_calls::write_port(empty, 2, 7);
+    let again = calls_ports::write_port(empty, 2, 7);
     say::text(b", write");
     say::no(again);
     waiting(again.chip);
@@ -55,7 +55,7 @@ fn used_again(chip: Chip) {
 }
 
 pub fn flushed(chip: Chip) -> Chip {
-    let after = cycle_calls::flush_pending_writes(chip);
+    let after = calls_cycles::flush_pending_writes(chip);
     say::text(b", flush");
     say::no(after);
     waiting(after.chip);
@@ -63,13 +63,13 @@ pub fn flushed(chip: Chip) -> Chip {
 }
 
 pub fn waiting(chip: Chip) {
-    let answer = cycle_calls::pending_write_count(chip);
+    let answer = calls_cycles::pending_write_count(chip);
     say::text(b", waiting");
     say::number(answer.count as u64);
 }
 
 pub fn read(chip: Chip, register: u8) {
-    let answer = register_calls::read_register(chip, register);
+    let answer = calls_registers::read_register(chip, register);
     say::byte(answer.value);
 }
 
@@ -85,7 +85,7 @@ fn filled(chip: Chip, writes: u64) -> Chip {
 }
 
 fn written(chip: Chip, value: u8) -> Chip {
-    let answer = port_calls::write_port(chip, 2, value);
+    let answer = calls_ports::write_port(chip, 2, value);
     answer.chip
 }
 
@@ -103,12 +103,12 @@ fn stamps() {
 }
 
 fn stamped(chip: Chip, cycle: u64, value: u8) -> Chip {
-    let set = cycle_calls::set_cpu_cycle(chip, cycle);
+    let set = calls_cycles::set_cpu_cycle(chip, cycle);
     written(set.chip, value)
 }
 
 fn waiting_there(chip: Chip) {
-    let answer = cycle_calls::pending_write_count(chip);
+    let answer = calls_cycles::pending_write_count(chip);
     say::text(b" waiting");
     say::number(answer.count as u64);
 }

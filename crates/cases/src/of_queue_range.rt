@@ -36,7 +36,7 @@ fn selections() {
 
 // The first slot holds a write to the register.
 fn waiting(register: u8, head: usize, count: usize) {
-    let mut chip = making::new();
+    let mut chip = calls_making::new();
     let mut queue = chip.queue;
     queue.registers[0] = register;
     queue.head = head;
@@ -77,7 +77,7 @@ fn heads() {
 
 // A refused call leaves the record: no selection, no waiting write.
 fn left(port: u8) {
-    let after = port_calls::write_port(selected(16), port, 3);
+    let after = calls_ports::write_port(selected(16), port, 3);
     say::no(after);
     say::text(b", selection");
     say::byte(after.chip.core.selected);

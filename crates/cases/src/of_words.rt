@@ -16,14 +16,14 @@ pub fn show() {
 
 fn fresh() {
     say::text(b"fresh chip, words and ticks:");
-    four(making::new());
+    four(calls_making::new());
 }
 
 #[rattlefmt::skip]
 fn dump() {
     say::text(b"dump 020000000000003e0f0000000000 at 250000, words and ticks:");
     let bytes = [2u8, 0, 0, 0, 0, 0, 0, 0x3e, 0x0f, 0, 0, 0, 0, 0, 0, 0];
-    let loaded = register_calls::load_registers(steps::at_a_tick(), bytes);
+    let loaded = calls_registers::load_registers(steps::at_a_tick(), bytes);
     four(loaded.chip);
 }
 
@@ -35,7 +35,7 @@ fn four(chip: Chip) {
 }
 
 fn word(chip: Chip) -> Chip {
-    let after = word_calls::compute_next_sample(chip);
+    let after = calls_words::compute_next_sample(chip);
     say::number(after.answer.word as u64);
     say::number(after.answer.ticks);
     say::text(b",");
@@ -57,7 +57,7 @@ fn enveloped() -> Chip {
 }
 
 fn heard(chip: Chip) -> Chip {
-    let after = word_calls::compute_next_sample(chip);
+    let after = calls_words::compute_next_sample(chip);
     say::number(after.answer.word as u64);
     after.chip
 }
@@ -73,8 +73,8 @@ fn drum_8() {
 }
 
 fn drummed(drum: Drum) {
-    let chip = steps::a_alone(making::new());
-    let set = effect_calls::set_drum_sample_override(chip, 0, drum);
+    let chip = steps::a_alone(calls_making::new());
+    let set = calls_effects::set_drum_sample_override(chip, 0, drum);
     heard(set.chip);
     say::end();
 }
@@ -82,7 +82,7 @@ fn drummed(drum: Drum) {
 // 01: reset keeps the noise period.
 fn noise_period_kept() {
     say::text(b"R6 31, reset: R6");
-    let answer = making::reset(steps::written(steps::at_a_tick(), 6, 31));
+    let answer = calls_making::reset(steps::written(steps::at_a_tick(), 6, 31));
     of_queue::read(answer.chip, 6);
     say::text(b", noise period");
     say::byte(answer.chip.core.voice.generators.noise.period);

@@ -1,5 +1,5 @@
 // Labels and numbers on standard output; each number has a space before it.
-use calls::Answered;
+use answers::Answered;
 
 pub fn text(words: &[u8]) {
     io::write_all(1, words);

@@ -3,17 +3,17 @@ use clocking::Chip;
 
 // At this rate and 2,000,000 a word is one tick.
 pub fn at_a_tick() -> Chip {
-    let answer = making::with_clocks(2_000_000, 250_000);
+    let answer = calls_making::with_clocks(2_000_000, 250_000);
     answer.chip
 }
 
 pub fn selected(register: u8) -> Chip {
-    let answer = port_calls::write_port(making::new(), 0, register);
+    let answer = calls_ports::write_port(calls_making::new(), 0, register);
     answer.chip
 }
 
 pub fn next(chip: Chip) -> Chip {
-    let answer = word_calls::compute_next_sample(chip);
+    let answer = calls_words::compute_next_sample(chip);
     answer.chip
 }
 
@@ -28,17 +28,17 @@ pub fn after(chip: Chip, words: u64) -> Chip {
 }
 
 pub fn synced(cycle: u64) -> Chip {
-    let answer = cycle_calls::sync_sample_cycle(making::new(), cycle);
+    let answer = calls_cycles::sync_sample_cycle(calls_making::new(), cycle);
     answer.chip
 }
 
 pub fn written(chip: Chip, register: u8, value: u8) -> Chip {
-    let answer = register_calls::write_register(chip, register, value);
+    let answer = calls_registers::write_register(chip, register, value);
     answer.chip
 }
 
 pub fn muted(chip: Chip, channel: usize) -> Chip {
-    let answer = effect_calls::set_channel_mute(chip, channel, true);
+    let answer = calls_effects::set_channel_mute(chip, channel, true);
     answer.chip
 }
 

@@ -6,9 +6,9 @@ use lib.Bits.{bitOr}
 use Rattle.laws.proofs.Tests.{on-le, on-gt}
 use Rattle.generators.specs.declared.Generators.{Generators}
 use Rattle.generators.specs.Generators.{tick, edgesOf}
-use Rattle.turning.specs.declared.Turning.{Turning}
-use Rattle.turning.specs.Turning.{Held, shown, turned}
-use Rattle.turning.proofs.Shown.{shown-tick, shown-edges}
+use Rattle.clocking_generators.specs.declared.Turning.{Turning}
+use Rattle.clocking_generators.specs.Turning.{Held, shown, turned}
+use Rattle.clocking_generators.proofs.Shown.{shown-tick, shown-edges}
 use Rattle.gates.specs.declared.Gates.{Gates}
 use Rattle.gates.specs.Gates.{gateOf}
 use Rattle.clocking.specs.declared.Ran.{Ran}

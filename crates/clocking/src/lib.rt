@@ -9,13 +9,13 @@ ghost use Rattle.generators.specs.Range.{GeneratorsInRange};
 ghost use Rattle.queue.specs.Waiting.{ring, QueueInRange};
 ghost use Rattle.clocking.specs.Ticks.{ticked, ClocksRun};
 ghost use Rattle.clocking.specs.Word.{mixedOf, wordOf, smallOf, blockOf, wordsOf, CoreInRange};
+use clocking_generators::Turning;
 use gates::Gates;
 use generators::Generators;
 use mixer::Channels;
 use mixer::Mixed;
 use queue::Queue;
 use registers::Voice;
-use turning::Turning;
 
 // Accepted clocks and their quotients: the internal clock is a tick's, and `cycles` are the CPU's in a word.
 pub struct Clocks {

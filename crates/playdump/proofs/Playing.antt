@@ -13,12 +13,12 @@ use Rattle.dump.specs.Checked.{checked}
 use Rattle.dump.specs.declared.whole.Verdict.{Verdict}
 use Rattle.dump.proofs.Accepted.{accepted-laid}
 use Rattle.clocking.specs.declared.Chip.{Chip}
-use Rattle.calls.specs.declared.Answered.{Answered}
-use Rattle.calls.specs.declared.Blocked.{Blocked}
-use Rattle.making.specs.Making.{withClocks}
-use Rattle.frames.specs.Frame.{framePlayed, frameBuffer}
-use Rattle.frames.specs.Whole.{placeOf, valueOf, chipBefore, frameWords}
-use Rattle.frames.proofs.Whole.{leaves, fills}
+use Rattle.answers.specs.declared.Answered.{Answered}
+use Rattle.answers.specs.declared.Blocked.{Blocked}
+use Rattle.calls_making.specs.Making.{withClocks}
+use Rattle.dump_frames.specs.Frame.{framePlayed, frameBuffer}
+use Rattle.dump_frames.specs.Whole.{placeOf, valueOf, chipBefore, frameWords}
+use Rattle.dump_frames.proofs.Whole.{leaves, fills}
 
 -- where frame f stands, and the chip before it
 pub record Playing (t : List ℕ) (v : Verdict) (words : List ℕ) (chip : Chip) (at f : ℕ) : Type 0 where

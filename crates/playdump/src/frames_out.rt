@@ -5,7 +5,7 @@ ghost use mathlib.Core.Path.{_≡_};
 ghost use Prim.Native.Nat.{_+_, _<_, _≤_};
 ghost use lib.ListN.{length};
 ghost use Rattle.dump.specs.Checked.{checked};
-ghost use Rattle.frames.specs.Whole.{chipBefore, frameWords, placeOf};
+ghost use Rattle.dump_frames.specs.Whole.{chipBefore, frameWords, placeOf};
 
 pub fn play_all(text: &[u8], verdict: Verdict)
     requires { ⌜ verdict ≡ checked (now text) ⌝ }
@@ -22,7 +22,7 @@ fn play_frames(text: &[u8], verdict: Verdict, words: &mut [u16], lines: &mut [u8
     requires { ⌜ verdict .no ≡ 0 ⌝ }
     requires { ⌜ length (now words) ≡ verdict .words ⌝ }
 {
-    let made = making::with_clocks(verdict.master, verdict.rate);
+    let made = calls_making::with_clocks(verdict.master, verdict.rate);
     let mut chip = made.chip;
     let mut at = verdict.body;
     let mut used = 0;
@@ -55,18 +55,18 @@ fn play_frame(
     ensures left { λ r. ⌜ r ≡ chipBefore (now (text .entry)) (f + 1) ⌝ }
     ensures words { λ r. ⌜ now (words .exit) ≡ frameWords (now (text .entry)) f ⌝ }
 {
-    let played = frames::play_frame(chip, text, at, words);
+    let played = dump_frames::play_frame(chip, text, at, words);
     played.chip
 }
 
 // The lines wait until there is no room for a frame more.
 fn print(lines: &mut [u8], used: usize, words: &[u16]) -> usize {
-    let next = output::put_words(lines, used, words);
+    let next = dump_output::put_words(lines, used, words);
     if next > used {
         return next;
     }
     flush(lines, used);
-    output::put_words(lines, 0, words)
+    dump_output::put_words(lines, 0, words)
 }
 
 pub fn flush(lines: &[u8], used: usize) {

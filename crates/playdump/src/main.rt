@@ -2,7 +2,7 @@
 mod frames_out;
 
 use dump::Verdict;
-use output::Text;
+use dump_output::Text;
 
 // One byte past the longest dump is enough to know that it is too long.
 const ROOM: usize = 65_537;
@@ -17,10 +17,10 @@ fn main() {
 fn play(text: &[u8]) {
     let verdict = dump::check(text);
     if verdict.no != refusals::ACCEPTED {
-        say(output::refusal(verdict.no, verdict.line));
+        say(dump_output::refusal(verdict.no, verdict.line));
         return;
     }
-    say(output::total(verdict.words as u32 * verdict.frames as u32));
+    say(dump_output::total(verdict.words as u32 * verdict.frames as u32));
     frames_out::play_all(text, verdict);
 }
 

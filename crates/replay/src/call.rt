@@ -3,18 +3,21 @@ use crate::desk::Desk;
 use crate::field::One;
 use crate::field::Two;
 use crate::number;
-use calls::Answered;
+use answers::Answered;
 use clocking::Chip;
 
 pub fn with_clocks(desk: Desk, out: &mut [u8], n: Two) -> Desk {
     if !n.good {
         return desk.bad();
     }
-    desk.answered(out, chip::with_clocks(number::word(n.x), number::word(n.y)))
+    desk.answered(
+        out,
+        calls::with_clocks(number::word(n.x), number::word(n.y)),
+    )
 }
 
 pub fn fresh(desk: Desk, out: &mut [u8]) -> Desk {
-    let next = desk.holding(chip::new());
+    let next = desk.holding(calls::new());
     next.said(out, 0)
 }
 
@@ -24,9 +27,9 @@ pub fn reset(desk: Desk, out: &mut [u8]) -> Desk {
 
 fn reset_of(chip: Chip, lent: bool) -> Answered {
     if lent {
-        return host::reset(chip);
+        return cabinet_host::reset(chip);
     }
-    chip::reset(chip)
+    calls::reset(chip)
 }
 
 pub fn write(desk: Desk, out: &mut [u8], n: Two) -> Desk {
@@ -41,9 +44,9 @@ pub fn write(desk: Desk, out: &mut [u8], n: Two) -> Desk {
 
 fn write_of(chip: Chip, lent: bool, register: u8, value: u8) -> Answered {
     if lent {
-        return host::write_register(chip, register, value);
+        return cabinet_host::write_register(chip, register, value);
     }
-    chip::write_register(chip, register, value)
+    calls::write_register(chip, register, value)
 }
 
 pub fn load(desk: Desk, out: &mut [u8], n: Two) -> Desk {
@@ -55,9 +58,9 @@ pub fn load(desk: Desk, out: &mut [u8], n: Two) -> Desk {
 
 fn load_of(chip: Chip, lent: bool, bytes: [u8; 16]) -> Answered {
     if lent {
-        return host::load_registers(chip, bytes);
+        return cabinet_host::load_registers(chip, bytes);
     }
-    chip::load_registers(chip, bytes)
+    calls::load_registers(chip, bytes)
 }
 
 pub fn port(desk: Desk, out: &mut [u8], n: Two) -> Desk {
@@ -72,9 +75,9 @@ pub fn port(desk: Desk, out: &mut [u8], n: Two) -> Desk {
 
 fn port_of(chip: Chip, lent: bool, port: u8, value: u8) -> Answered {
     if lent {
-        return host::write_port(chip, port, value);
+        return cabinet_host::write_port(chip, port, value);
     }
-    chip::write_port(chip, port, value)
+    calls::write_port(chip, port, value)
 }
 
 pub fn port_now(desk: Desk, out: &mut [u8], n: Two) -> Desk {
@@ -89,9 +92,9 @@ pub fn port_now(desk: Desk, out: &mut [u8], n: Two) -> Desk {
 
 fn port_now_of(chip: Chip, lent: bool, port: u8, value: u8) -> Answered {
     if lent {
-        return host::write_port_immediate(chip, port, value);
+        return cabinet_host::write_port_immediate(chip, port, value);
     }
-    chip::write_port_immediate(chip, port, value)
+    calls::write_port_immediate(chip, port, value)
 }
 
 pub fn cycle(desk: Desk, out: &mut [u8], n: One) -> Desk {
@@ -103,9 +106,9 @@ pub fn cycle(desk: Desk, out: &mut [u8], n: One) -> Desk {
 
 fn cycle_of(chip: Chip, lent: bool, cycle: u64) -> Answered {
     if lent {
-        return host::set_cpu_cycle(chip, cycle);
+        return cabinet_host::set_cpu_cycle(chip, cycle);
     }
-    chip::set_cpu_cycle(chip, cycle)
+    calls::set_cpu_cycle(chip, cycle)
 }
 
 pub fn sync(desk: Desk, out: &mut [u8], n: One) -> Desk {
@@ -117,9 +120,9 @@ pub fn sync(desk: Desk, out: &mut [u8], n: One) -> Desk {
 
 fn sync_of(chip: Chip, lent: bool, cycle: u64) -> Answered {
     if lent {
-        return host::sync_sample_cycle(chip, cycle);
+        return cabinet_host::sync_sample_cycle(chip, cycle);
     }
-    chip::sync_sample_cycle(chip, cycle)
+    calls::sync_sample_cycle(chip, cycle)
 }
 
 pub fn flush(desk: Desk, out: &mut [u8]) -> Desk {
@@ -128,7 +131,7 @@ pub fn flush(desk: Desk, out: &mut [u8]) -> Desk {
 
 fn flush_of(chip: Chip, lent: bool) -> Answered {
     if lent {
-        return host::flush_pending_writes(chip);
+        return cabinet_host::flush_pending_writes(chip);
     }
-    chip::flush_pending_writes(chip)
+    calls::flush_pending_writes(chip)
 }

@@ -1,6 +1,6 @@
 // What a script plays on: its chip, how calls go to it, and the place in the output.
 use crate::say;
-use calls::Answered;
+use answers::Answered;
 use clocking::Chip;
 
 pub struct Desk {
@@ -15,7 +15,7 @@ pub struct Desk {
 
 impl Desk {
     pub fn new() -> Desk {
-        let chip = making::new();
+        let chip = calls_making::new();
         Desk {
             chip,
             lent: false,

@@ -5,7 +5,7 @@ use crate::field::One;
 use crate::field::Two;
 use crate::name;
 use crate::number;
-use calls::Answered;
+use answers::Answered;
 use channel::Drum;
 use clocking::Chip;
 
@@ -18,9 +18,9 @@ pub fn irq(desk: Desk, out: &mut [u8], n: One) -> Desk {
 
 fn irq_of(chip: Chip, lent: bool, on: bool) -> Answered {
     if lent {
-        return host::set_timer_irq_state(chip, on);
+        return cabinet_host::set_timer_irq_state(chip, on);
     }
-    chip::set_timer_irq_state(chip, on)
+    calls::set_timer_irq_state(chip, on)
 }
 
 pub fn inside_irq(desk: Desk, out: &mut [u8], n: One) -> Desk {
@@ -32,9 +32,9 @@ pub fn inside_irq(desk: Desk, out: &mut [u8], n: One) -> Desk {
 
 fn inside_irq_of(chip: Chip, lent: bool, inside: bool) -> Answered {
     if lent {
-        return host::inside_timer_irq(chip, inside);
+        return cabinet_host::inside_timer_irq(chip, inside);
     }
-    chip::inside_timer_irq(chip, inside)
+    calls::inside_timer_irq(chip, inside)
 }
 
 pub fn trigger(desk: Desk, out: &mut [u8]) -> Desk {
@@ -43,9 +43,9 @@ pub fn trigger(desk: Desk, out: &mut [u8]) -> Desk {
 
 fn trigger_of(chip: Chip, lent: bool) -> Answered {
     if lent {
-        return host::trigger_envelope(chip);
+        return cabinet_host::trigger_envelope(chip);
     }
-    chip::trigger_envelope(chip)
+    calls::trigger_envelope(chip)
 }
 
 pub fn mute(desk: Desk, out: &mut [u8], n: Two) -> Desk {
@@ -60,9 +60,9 @@ pub fn mute(desk: Desk, out: &mut [u8], n: Two) -> Desk {
 
 fn mute_of(chip: Chip, lent: bool, channel: usize, muted: bool) -> Answered {
     if lent {
-        return host::set_channel_mute(chip, channel, muted);
+        return cabinet_host::set_channel_mute(chip, channel, muted);
     }
-    chip::set_channel_mute(chip, channel, muted)
+    calls::set_channel_mute(chip, channel, muted)
 }
 
 // `off`, or the eight hex digits of an f32.
@@ -94,9 +94,9 @@ fn drummed(desk: Desk, out: &mut [u8], channel: u64, drum: Drum) -> Desk {
 
 fn drum_of(chip: Chip, lent: bool, channel: usize, drum: Drum) -> Answered {
     if lent {
-        return host::set_drum_sample_override(chip, channel, drum);
+        return cabinet_host::set_drum_sample_override(chip, channel, drum);
     }
-    chip::set_drum_sample_override(chip, channel, drum)
+    calls::set_drum_sample_override(chip, channel, drum)
 }
 
 // From here on calls go to a chip by value, or to one that is lent.

@@ -3,12 +3,12 @@ use crate::desk::Desk;
 use crate::field::One;
 use crate::number;
 use crate::say;
-use calls::Byte;
-use calls::Bytes;
-use calls::Count;
-use calls::Cycle;
-use calls::Flag;
-use calls::Outputs;
+use answers::Byte;
+use answers::Bytes;
+use answers::Count;
+use answers::Cycle;
+use answers::Flag;
+use answers::Outputs;
 use clocking::Chip;
 use queue::Queue;
 
@@ -22,9 +22,9 @@ pub fn read(desk: Desk, out: &mut [u8], n: One) -> Desk {
 
 fn read_of(chip: Chip, lent: bool, register: u8) -> Byte {
     if lent {
-        return host::read_register(chip, register);
+        return cabinet_host::read_register(chip, register);
     }
-    chip::read_register(chip, register)
+    calls::read_register(chip, register)
 }
 
 pub fn read_port(desk: Desk, out: &mut [u8], n: One) -> Desk {
@@ -37,9 +37,9 @@ pub fn read_port(desk: Desk, out: &mut [u8], n: One) -> Desk {
 
 fn read_port_of(chip: Chip, lent: bool, port: u8) -> Byte {
     if lent {
-        return host::read_port(chip, port);
+        return cabinet_host::read_port(chip, port);
     }
-    chip::read_port(chip, port)
+    calls::read_port(chip, port)
 }
 
 pub fn dump(desk: Desk, out: &mut [u8]) -> Desk {
@@ -53,9 +53,9 @@ pub fn dump(desk: Desk, out: &mut [u8]) -> Desk {
 
 fn dump_of(chip: Chip, lent: bool) -> Bytes {
     if lent {
-        return host::dump_registers(chip);
+        return cabinet_host::dump_registers(chip);
     }
-    chip::dump_registers(chip)
+    calls::dump_registers(chip)
 }
 
 fn wide(byte: u8) -> u64 {
@@ -69,9 +69,9 @@ pub fn get_cycle(desk: Desk, out: &mut [u8]) -> Desk {
 
 fn get_cycle_of(chip: Chip, lent: bool) -> Cycle {
     if lent {
-        return host::cpu_cycle(chip);
+        return cabinet_host::cpu_cycle(chip);
     }
-    chip::cpu_cycle(chip)
+    calls::cpu_cycle(chip)
 }
 
 pub fn pending(desk: Desk, out: &mut [u8]) -> Desk {
@@ -81,9 +81,9 @@ pub fn pending(desk: Desk, out: &mut [u8]) -> Desk {
 
 fn pending_of(chip: Chip, lent: bool) -> Count {
     if lent {
-        return host::pending_write_count(chip);
+        return cabinet_host::pending_write_count(chip);
     }
-    chip::pending_write_count(chip)
+    calls::pending_write_count(chip)
 }
 
 pub fn muted(desk: Desk, out: &mut [u8], n: One) -> Desk {
@@ -98,9 +98,9 @@ pub fn muted(desk: Desk, out: &mut [u8], n: One) -> Desk {
 
 fn muted_of(chip: Chip, lent: bool, channel: usize) -> Flag {
     if lent {
-        return host::is_channel_muted(chip, channel);
+        return cabinet_host::is_channel_muted(chip, channel);
     }
-    chip::is_channel_muted(chip, channel)
+    calls::is_channel_muted(chip, channel)
 }
 
 pub fn outputs(desk: Desk, out: &mut [u8]) -> Desk {
@@ -118,9 +118,9 @@ fn three(out: &mut [u8], at: usize, answer: Outputs) -> usize {
 
 fn outputs_of(chip: Chip, lent: bool) -> Outputs {
     if lent {
-        return host::get_channel_outputs(chip);
+        return cabinet_host::get_channel_outputs(chip);
     }
-    chip::get_channel_outputs(chip)
+    calls::get_channel_outputs(chip)
 }
 
 // No call: a look at the record's ring.

@@ -3,10 +3,10 @@ use crate::desk::Desk;
 use crate::field::One;
 use crate::number;
 use crate::say;
-use calls::Blocked;
-use calls::Played;
-use calls::Sample;
-use calls::Sampled;
+use answers::Blocked;
+use answers::Played;
+use answers::Sample;
+use answers::Sampled;
 use clocking::Chip;
 
 // A longer block prints its first and last word and a check of all.
@@ -21,9 +21,9 @@ pub fn word(desk: Desk, out: &mut [u8]) -> Desk {
 
 fn word_of(chip: Chip, lent: bool) -> Sampled {
     if lent {
-        return host::compute_next_sample(chip);
+        return cabinet_host::compute_next_sample(chip);
     }
-    chip::compute_next_sample(chip)
+    calls::compute_next_sample(chip)
 }
 
 fn sampled(out: &mut [u8], at: usize, answer: Sample) -> usize {
@@ -52,9 +52,9 @@ pub fn block(desk: Desk, out: &mut [u8], words: &mut [u16], n: One) -> Desk {
 
 fn block_of(chip: Chip, lent: bool, words: &mut [u16]) -> Blocked {
     if lent {
-        return host::block(chip, words);
+        return cabinet_host::block(chip, words);
     }
-    chip::block(chip, words)
+    calls::block(chip, words)
 }
 
 fn played(out: &mut [u8], at: usize, answer: Played, words: &[u16]) -> usize {

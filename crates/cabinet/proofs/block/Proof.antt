@@ -1,10 +1,10 @@
--- `cabinet::block` meets its contract: the walk of `ThinSlice.antt`, at `word_calls::block`. Assumes nothing.
+-- `cabinet::block` meets its contract: the walk of `ThinSlice.antt`, at `calls_words::block`. Assumes nothing.
 use mathlib.Core.Path.{refl}
 use lib.ListN.{length}
 use Rattle.laws.proofs.ThinSlice as thin
-use Rattle.word_calls.specs.Blocks.{blockBuffer, blocked}
-use Rattle.word_calls.proofs.block.Symbol as g
-use Rattle.word_calls.proofs.block.Met as g-thm
+use Rattle.calls_words.specs.Blocks.{blockBuffer, blocked}
+use Rattle.calls_words.proofs.block.Symbol as g
+use Rattle.calls_words.proofs.block.Met as g-thm
 use Rattle.cabinet.proofs.Replies as replies
 use Rattle.cabinet.proofs.block.Key as key
 use Rattle.cabinet.proofs.block.Statement.{statement}

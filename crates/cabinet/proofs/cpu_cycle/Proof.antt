@@ -1,10 +1,10 @@
--- `cabinet::cpu_cycle` meets its contract: the walk of `Look.antt`, at `cycle_calls::cpu_cycle`. Assumes nothing.
+-- `cabinet::cpu_cycle` meets its contract: the walk of `Look.antt`, at `calls_cycles::cpu_cycle`. Assumes nothing.
 use mathlib.Core.Path.{refl}
 use mathlib.Core.List.{[]}
 use Rattle.laws.proofs.Look as thin
-use Rattle.cycle_calls.specs.Cycles.{cpuCycle}
-use Rattle.cycle_calls.proofs.cpu_cycle.Symbol as g
-use Rattle.cycle_calls.proofs.cpu_cycle.Met as g-thm
+use Rattle.calls_cycles.specs.Cycles.{cpuCycle}
+use Rattle.calls_cycles.proofs.cpu_cycle.Symbol as g
+use Rattle.calls_cycles.proofs.cpu_cycle.Met as g-thm
 use Rattle.cabinet.proofs.Replies as replies
 use Rattle.cabinet.proofs.cpu_cycle.Key as key
 use Rattle.cabinet.proofs.cpu_cycle.Statement.{statement}

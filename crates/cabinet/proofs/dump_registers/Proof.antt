@@ -1,10 +1,10 @@
--- `cabinet::dump_registers` meets its contract: the walk of `Look.antt`, at `register_calls::dump_registers`. Assumes nothing.
+-- `cabinet::dump_registers` meets its contract: the walk of `Look.antt`, at `calls_registers::dump_registers`. Assumes nothing.
 use mathlib.Core.Path.{refl}
 use mathlib.Core.List.{[]}
 use Rattle.laws.proofs.Look as thin
-use Rattle.register_calls.specs.Stored.{dumpRegisters}
-use Rattle.register_calls.proofs.dump_registers.Symbol as g
-use Rattle.register_calls.proofs.dump_registers.Met as g-thm
+use Rattle.calls_registers.specs.Stored.{dumpRegisters}
+use Rattle.calls_registers.proofs.dump_registers.Symbol as g
+use Rattle.calls_registers.proofs.dump_registers.Met as g-thm
 use Rattle.cabinet.proofs.Replies as replies
 use Rattle.cabinet.proofs.dump_registers.Key as key
 use Rattle.cabinet.proofs.dump_registers.Statement.{statement}

@@ -1,10 +1,10 @@
--- `cabinet::flush_pending_writes` meets its contract: the walk of `Thin.antt`, at `cycle_calls::flush_pending_writes`. Assumes nothing.
+-- `cabinet::flush_pending_writes` meets its contract: the walk of `Thin.antt`, at `calls_cycles::flush_pending_writes`. Assumes nothing.
 use mathlib.Core.Path.{refl}
 use mathlib.Core.List.{[]}
 use Rattle.laws.proofs.Thin as thin
-use Rattle.cycle_calls.specs.Cycles.{flushPendingWrites}
-use Rattle.cycle_calls.proofs.flush_pending_writes.Symbol as g
-use Rattle.cycle_calls.proofs.flush_pending_writes.Met as g-thm
+use Rattle.calls_cycles.specs.Cycles.{flushPendingWrites}
+use Rattle.calls_cycles.proofs.flush_pending_writes.Symbol as g
+use Rattle.calls_cycles.proofs.flush_pending_writes.Met as g-thm
 use Rattle.cabinet.proofs.Replies as replies
 use Rattle.cabinet.proofs.flush_pending_writes.Key as key
 use Rattle.cabinet.proofs.flush_pending_writes.Statement.{statement}

@@ -1,10 +1,10 @@
--- `cabinet::get_channel_outputs` meets its contract: the walk of `Look.antt`, at `effect_calls::get_channel_outputs`. Assumes nothing.
+-- `cabinet::get_channel_outputs` meets its contract: the walk of `Look.antt`, at `calls_effects::get_channel_outputs`. Assumes nothing.
 use mathlib.Core.Path.{refl}
 use mathlib.Core.List.{[]}
 use Rattle.laws.proofs.Look as thin
-use Rattle.effect_calls.specs.Effects.{getChannelOutputs}
-use Rattle.effect_calls.proofs.get_channel_outputs.Symbol as g
-use Rattle.effect_calls.proofs.get_channel_outputs.Met as g-thm
+use Rattle.calls_effects.specs.Effects.{getChannelOutputs}
+use Rattle.calls_effects.proofs.get_channel_outputs.Symbol as g
+use Rattle.calls_effects.proofs.get_channel_outputs.Met as g-thm
 use Rattle.cabinet.proofs.Replies as replies
 use Rattle.cabinet.proofs.get_channel_outputs.Key as key
 use Rattle.cabinet.proofs.get_channel_outputs.Statement.{statement}

@@ -1,11 +1,11 @@
--- `cabinet::inside_timer_irq` meets its contract: the walk of `Thin.antt`, at `effect_calls::inside_timer_irq`. Assumes nothing.
+-- `cabinet::inside_timer_irq` meets its contract: the walk of `Thin.antt`, at `calls_effects::inside_timer_irq`. Assumes nothing.
 use mathlib.Core.Path.{refl}
 use mathlib.Core.List.{[], _∷_}
 use Rattle.laws.proofs.Flat.{boolf}
 use Rattle.laws.proofs.Thin as thin
-use Rattle.effect_calls.specs.Effects.{setTimerIrqState}
-use Rattle.effect_calls.proofs.inside_timer_irq.Symbol as g
-use Rattle.effect_calls.proofs.inside_timer_irq.Met as g-thm
+use Rattle.calls_effects.specs.Effects.{setTimerIrqState}
+use Rattle.calls_effects.proofs.inside_timer_irq.Symbol as g
+use Rattle.calls_effects.proofs.inside_timer_irq.Met as g-thm
 use Rattle.cabinet.proofs.Replies as replies
 use Rattle.cabinet.proofs.inside_timer_irq.Key as key
 use Rattle.cabinet.proofs.inside_timer_irq.Statement.{statement}

@@ -1,11 +1,11 @@
--- `cabinet::load_registers` meets its contract: the walk of `Thin.antt`, at `register_calls::load_registers`. Assumes nothing.
+-- `cabinet::load_registers` meets its contract: the walk of `Thin.antt`, at `calls_registers::load_registers`. Assumes nothing.
 use mathlib.Core.Path.{refl}
 use mathlib.Core.List.{[], _∷_}
 use Rattle.laws.proofs.Flat.{bytesf}
 use Rattle.laws.proofs.Thin as thin
-use Rattle.register_calls.specs.Stored.{loadRegisters}
-use Rattle.register_calls.proofs.load_registers.Symbol as g
-use Rattle.register_calls.proofs.load_registers.Met as g-thm
+use Rattle.calls_registers.specs.Stored.{loadRegisters}
+use Rattle.calls_registers.proofs.load_registers.Symbol as g
+use Rattle.calls_registers.proofs.load_registers.Met as g-thm
 use Rattle.cabinet.proofs.Replies as replies
 use Rattle.cabinet.proofs.load_registers.Key as key
 use Rattle.cabinet.proofs.load_registers.Statement.{statement}

@@ -1,10 +1,10 @@
--- `cabinet::pending_write_count` meets its contract: the walk of `Look.antt`, at `cycle_calls::pending_write_count`. Assumes nothing.
+-- `cabinet::pending_write_count` meets its contract: the walk of `Look.antt`, at `calls_cycles::pending_write_count`. Assumes nothing.
 use mathlib.Core.Path.{refl}
 use mathlib.Core.List.{[]}
 use Rattle.laws.proofs.Look as thin
-use Rattle.cycle_calls.specs.Cycles.{pendingWriteCount}
-use Rattle.cycle_calls.proofs.pending_write_count.Symbol as g
-use Rattle.cycle_calls.proofs.pending_write_count.Met as g-thm
+use Rattle.calls_cycles.specs.Cycles.{pendingWriteCount}
+use Rattle.calls_cycles.proofs.pending_write_count.Symbol as g
+use Rattle.calls_cycles.proofs.pending_write_count.Met as g-thm
 use Rattle.cabinet.proofs.Replies as replies
 use Rattle.cabinet.proofs.pending_write_count.Key as key
 use Rattle.cabinet.proofs.pending_write_count.Statement.{statement}

@@ -1,11 +1,11 @@
--- `cabinet::read_port` meets its contract: the walk of `Look.antt`, at `port_calls::read_port`. Assumes nothing.
+-- `cabinet::read_port` meets its contract: the walk of `Look.antt`, at `calls_ports::read_port`. Assumes nothing.
 use mathlib.Core.Path.{refl}
 use mathlib.Core.List.{[], _∷_}
 use Rattle.laws.proofs.Flat.{u8f}
 use Rattle.laws.proofs.Look as thin
-use Rattle.port_calls.specs.Ports.{readPort}
-use Rattle.port_calls.proofs.read_port.Symbol as g
-use Rattle.port_calls.proofs.read_port.Met as g-thm
+use Rattle.calls_ports.specs.Ports.{readPort}
+use Rattle.calls_ports.proofs.read_port.Symbol as g
+use Rattle.calls_ports.proofs.read_port.Met as g-thm
 use Rattle.cabinet.proofs.Replies as replies
 use Rattle.cabinet.proofs.read_port.Key as key
 use Rattle.cabinet.proofs.read_port.Statement.{statement}

@@ -1,11 +1,11 @@
--- `cabinet::read_register` meets its contract: the walk of `Look.antt`, at `register_calls::read_register`. Assumes nothing.
+-- `cabinet::read_register` meets its contract: the walk of `Look.antt`, at `calls_registers::read_register`. Assumes nothing.
 use mathlib.Core.Path.{refl}
 use mathlib.Core.List.{[], _∷_}
 use Rattle.laws.proofs.Flat.{u8f}
 use Rattle.laws.proofs.Look as thin
-use Rattle.register_calls.specs.Stored.{readRegister}
-use Rattle.register_calls.proofs.read_register.Symbol as g
-use Rattle.register_calls.proofs.read_register.Met as g-thm
+use Rattle.calls_registers.specs.Stored.{readRegister}
+use Rattle.calls_registers.proofs.read_register.Symbol as g
+use Rattle.calls_registers.proofs.read_register.Met as g-thm
 use Rattle.cabinet.proofs.Replies as replies
 use Rattle.cabinet.proofs.read_register.Key as key
 use Rattle.cabinet.proofs.read_register.Statement.{statement}

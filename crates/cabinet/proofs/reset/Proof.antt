@@ -1,10 +1,10 @@
--- `cabinet::reset` meets its contract: the walk of `Thin.antt`, at `making::reset`. Assumes nothing.
+-- `cabinet::reset` meets its contract: the walk of `Thin.antt`, at `calls_making::reset`. Assumes nothing.
 use mathlib.Core.Path.{refl}
 use mathlib.Core.List.{[]}
 use Rattle.laws.proofs.Thin as thin
-use Rattle.making.specs.Making.{resetCall}
-use Rattle.making.proofs.reset.Symbol as g
-use Rattle.making.proofs.reset.Met as g-thm
+use Rattle.calls_making.specs.Making.{resetCall}
+use Rattle.calls_making.proofs.reset.Symbol as g
+use Rattle.calls_making.proofs.reset.Met as g-thm
 use Rattle.cabinet.proofs.Replies as replies
 use Rattle.cabinet.proofs.reset.Key as key
 use Rattle.cabinet.proofs.reset.Statement.{statement}

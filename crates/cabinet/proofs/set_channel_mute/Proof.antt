@@ -1,11 +1,11 @@
--- `cabinet::set_channel_mute` meets its contract: the walk of `Thin.antt`, at `effect_calls::set_channel_mute`. Assumes nothing.
+-- `cabinet::set_channel_mute` meets its contract: the walk of `Thin.antt`, at `calls_effects::set_channel_mute`. Assumes nothing.
 use mathlib.Core.Path.{refl}
 use mathlib.Core.List.{[], _∷_}
 use Rattle.laws.proofs.Flat.{boolf, usizef}
 use Rattle.laws.proofs.Thin as thin
-use Rattle.effect_calls.specs.Effects.{setChannelMute}
-use Rattle.effect_calls.proofs.set_channel_mute.Symbol as g
-use Rattle.effect_calls.proofs.set_channel_mute.Met as g-thm
+use Rattle.calls_effects.specs.Effects.{setChannelMute}
+use Rattle.calls_effects.proofs.set_channel_mute.Symbol as g
+use Rattle.calls_effects.proofs.set_channel_mute.Met as g-thm
 use Rattle.cabinet.proofs.Replies as replies
 use Rattle.cabinet.proofs.set_channel_mute.Key as key
 use Rattle.cabinet.proofs.set_channel_mute.Statement.{statement}

@@ -1,11 +1,11 @@
--- `cabinet::set_cpu_cycle` meets its contract: the walk of `Thin.antt`, at `cycle_calls::set_cpu_cycle`. Assumes nothing.
+-- `cabinet::set_cpu_cycle` meets its contract: the walk of `Thin.antt`, at `calls_cycles::set_cpu_cycle`. Assumes nothing.
 use mathlib.Core.Path.{refl}
 use mathlib.Core.List.{[], _∷_}
 use Rattle.laws.proofs.Flat.{u64f}
 use Rattle.laws.proofs.Thin as thin
-use Rattle.cycle_calls.specs.Cycles.{setCpuCycle}
-use Rattle.cycle_calls.proofs.set_cpu_cycle.Symbol as g
-use Rattle.cycle_calls.proofs.set_cpu_cycle.Met as g-thm
+use Rattle.calls_cycles.specs.Cycles.{setCpuCycle}
+use Rattle.calls_cycles.proofs.set_cpu_cycle.Symbol as g
+use Rattle.calls_cycles.proofs.set_cpu_cycle.Met as g-thm
 use Rattle.cabinet.proofs.Replies as replies
 use Rattle.cabinet.proofs.set_cpu_cycle.Key as key
 use Rattle.cabinet.proofs.set_cpu_cycle.Statement.{statement}

@@ -1,11 +1,11 @@
--- `cabinet::set_drum_sample_override` meets its contract: the walk of `Thin.antt`, at `effect_calls::set_drum_sample_override`. Assumes nothing.
+-- `cabinet::set_drum_sample_override` meets its contract: the walk of `Thin.antt`, at `calls_effects::set_drum_sample_override`. Assumes nothing.
 use mathlib.Core.Path.{refl}
 use mathlib.Core.List.{[], _∷_}
 use Rattle.laws.proofs.Flat.{usizef}
 use Rattle.laws.proofs.Thin as thin
-use Rattle.effect_calls.specs.Effects.{setDrumSampleOverride}
-use Rattle.effect_calls.proofs.set_drum_sample_override.Symbol as g
-use Rattle.effect_calls.proofs.set_drum_sample_override.Met as g-thm
+use Rattle.calls_effects.specs.Effects.{setDrumSampleOverride}
+use Rattle.calls_effects.proofs.set_drum_sample_override.Symbol as g
+use Rattle.calls_effects.proofs.set_drum_sample_override.Met as g-thm
 use Rattle.cabinet.proofs.Replies as replies
 use Rattle.cabinet.proofs.set_drum_sample_override.Key as key
 use Rattle.cabinet.proofs.set_drum_sample_override.Statement.{statement}

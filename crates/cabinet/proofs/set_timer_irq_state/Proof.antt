@@ -1,11 +1,11 @@
--- `cabinet::set_timer_irq_state` meets its contract: the walk of `Thin.antt`, at `effect_calls::set_timer_irq_state`. Assumes nothing.
+-- `cabinet::set_timer_irq_state` meets its contract: the walk of `Thin.antt`, at `calls_effects::set_timer_irq_state`. Assumes nothing.
 use mathlib.Core.Path.{refl}
 use mathlib.Core.List.{[], _∷_}
 use Rattle.laws.proofs.Flat.{boolf}
 use Rattle.laws.proofs.Thin as thin
-use Rattle.effect_calls.specs.Effects.{setTimerIrqState}
-use Rattle.effect_calls.proofs.set_timer_irq_state.Symbol as g
-use Rattle.effect_calls.proofs.set_timer_irq_state.Met as g-thm
+use Rattle.calls_effects.specs.Effects.{setTimerIrqState}
+use Rattle.calls_effects.proofs.set_timer_irq_state.Symbol as g
+use Rattle.calls_effects.proofs.set_timer_irq_state.Met as g-thm
 use Rattle.cabinet.proofs.Replies as replies
 use Rattle.cabinet.proofs.set_timer_irq_state.Key as key
 use Rattle.cabinet.proofs.set_timer_irq_state.Statement.{statement}

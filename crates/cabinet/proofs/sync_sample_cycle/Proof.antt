@@ -1,11 +1,11 @@
--- `cabinet::sync_sample_cycle` meets its contract: the walk of `Thin.antt`, at `cycle_calls::sync_sample_cycle`. Assumes nothing.
+-- `cabinet::sync_sample_cycle` meets its contract: the walk of `Thin.antt`, at `calls_cycles::sync_sample_cycle`. Assumes nothing.
 use mathlib.Core.Path.{refl}
 use mathlib.Core.List.{[], _∷_}
 use Rattle.laws.proofs.Flat.{u64f}
 use Rattle.laws.proofs.Thin as thin
-use Rattle.cycle_calls.specs.Cycles.{syncSampleCycle}
-use Rattle.cycle_calls.proofs.sync_sample_cycle.Symbol as g
-use Rattle.cycle_calls.proofs.sync_sample_cycle.Met as g-thm
+use Rattle.calls_cycles.specs.Cycles.{syncSampleCycle}
+use Rattle.calls_cycles.proofs.sync_sample_cycle.Symbol as g
+use Rattle.calls_cycles.proofs.sync_sample_cycle.Met as g-thm
 use Rattle.cabinet.proofs.Replies as replies
 use Rattle.cabinet.proofs.sync_sample_cycle.Key as key
 use Rattle.cabinet.proofs.sync_sample_cycle.Statement.{statement}

@@ -1,10 +1,10 @@
--- `cabinet::trigger_envelope` meets its contract: the walk of `Thin.antt`, at `effect_calls::trigger_envelope`. Assumes nothing.
+-- `cabinet::trigger_envelope` meets its contract: the walk of `Thin.antt`, at `calls_effects::trigger_envelope`. Assumes nothing.
 use mathlib.Core.Path.{refl}
 use mathlib.Core.List.{[]}
 use Rattle.laws.proofs.Thin as thin
-use Rattle.effect_calls.specs.Effects.{triggerEnvelope}
-use Rattle.effect_calls.proofs.trigger_envelope.Symbol as g
-use Rattle.effect_calls.proofs.trigger_envelope.Met as g-thm
+use Rattle.calls_effects.specs.Effects.{triggerEnvelope}
+use Rattle.calls_effects.proofs.trigger_envelope.Symbol as g
+use Rattle.calls_effects.proofs.trigger_envelope.Met as g-thm
 use Rattle.cabinet.proofs.Replies as replies
 use Rattle.cabinet.proofs.trigger_envelope.Key as key
 use Rattle.cabinet.proofs.trigger_envelope.Statement.{statement}

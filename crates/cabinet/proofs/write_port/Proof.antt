@@ -1,11 +1,11 @@
--- `cabinet::write_port` meets its contract: the walk of `Thin.antt`, at `port_calls::write_port`. Assumes nothing.
+-- `cabinet::write_port` meets its contract: the walk of `Thin.antt`, at `calls_ports::write_port`. Assumes nothing.
 use mathlib.Core.Path.{refl}
 use mathlib.Core.List.{[], _∷_}
 use Rattle.laws.proofs.Flat.{u8f}
 use Rattle.laws.proofs.Thin as thin
-use Rattle.port_calls.specs.Ports.{writePort}
-use Rattle.port_calls.proofs.write_port.Symbol as g
-use Rattle.port_calls.proofs.write_port.Met as g-thm
+use Rattle.calls_ports.specs.Ports.{writePort}
+use Rattle.calls_ports.proofs.write_port.Symbol as g
+use Rattle.calls_ports.proofs.write_port.Met as g-thm
 use Rattle.cabinet.proofs.Replies as replies
 use Rattle.cabinet.proofs.write_port.Key as key
 use Rattle.cabinet.proofs.write_port.Statement.{statement}

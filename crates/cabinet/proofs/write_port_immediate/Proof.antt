@@ -1,11 +1,11 @@
--- `cabinet::write_port_immediate` meets its contract: the walk of `Thin.antt`, at `port_calls::write_port_immediate`. Assumes nothing.
+-- `cabinet::write_port_immediate` meets its contract: the walk of `Thin.antt`, at `calls_ports::write_port_immediate`. Assumes nothing.
 use mathlib.Core.Path.{refl}
 use mathlib.Core.List.{[], _∷_}
 use Rattle.laws.proofs.Flat.{u8f}
 use Rattle.laws.proofs.Thin as thin
-use Rattle.port_calls.specs.Ports.{writePortImmediate}
-use Rattle.port_calls.proofs.write_port_immediate.Symbol as g
-use Rattle.port_calls.proofs.write_port_immediate.Met as g-thm
+use Rattle.calls_ports.specs.Ports.{writePortImmediate}
+use Rattle.calls_ports.proofs.write_port_immediate.Symbol as g
+use Rattle.calls_ports.proofs.write_port_immediate.Met as g-thm
 use Rattle.cabinet.proofs.Replies as replies
 use Rattle.cabinet.proofs.write_port_immediate.Key as key
 use Rattle.cabinet.proofs.write_port_immediate.Statement.{statement}

@@ -1,11 +1,11 @@
--- `cabinet::write_register` meets its contract: the walk of `Thin.antt`, at `register_calls::write_register`. Assumes nothing.
+-- `cabinet::write_register` meets its contract: the walk of `Thin.antt`, at `calls_registers::write_register`. Assumes nothing.
 use mathlib.Core.Path.{refl}
 use mathlib.Core.List.{[], _∷_}
 use Rattle.laws.proofs.Flat.{u8f}
 use Rattle.laws.proofs.Thin as thin
-use Rattle.register_calls.specs.Stored.{writeRegister}
-use Rattle.register_calls.proofs.write_register.Symbol as g
-use Rattle.register_calls.proofs.write_register.Met as g-thm
+use Rattle.calls_registers.specs.Stored.{writeRegister}
+use Rattle.calls_registers.proofs.write_register.Symbol as g
+use Rattle.calls_registers.proofs.write_register.Met as g-thm
 use Rattle.cabinet.proofs.Replies as replies
 use Rattle.cabinet.proofs.write_register.Key as key
 use Rattle.cabinet.proofs.write_register.Statement.{statement}

@@ -3,8 +3,8 @@ use mathlib.Core.Path.{_∙_, ap}
 use Prim.Native.Nat.{_-_}
 use native.Mathlib.Omega.{arith}
 use borrow.Author.Needs.{needs}
-use Rattle.turning.specs.Turning.{shown}
-use Rattle.turning.proofs.Shown.{shown-of}
+use Rattle.clocking_generators.specs.Turning.{shown}
+use Rattle.clocking_generators.proofs.Shown.{shown-of}
 use Rattle.clocking.proofs.Ticking.{Turns, turns-start, turns-next, turns-done}
 use Rattle.clocking.proofs.run_ticks.Statement.{statement}
 use Rattle.clocking.proofs.run_ticks.Tie as tie

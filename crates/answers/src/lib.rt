@@ -1,0 +1,94 @@
+// What the calls of the chip answer, and what they share. 01, "Numbers a call can answer".
+ghost use mathlib.Core.Path.{_≡_};
+ghost use Rattle.refusals.specs.Numbers.{accepted, outOfRange};
+ghost use Rattle.answers.specs.Answers.{answered, withVoice};
+use clocking::Chip;
+use registers::Voice;
+
+// The chip after a call, and the call's number.
+pub struct Answered {
+    pub chip: Chip,
+    pub no: u8,
+}
+
+pub struct Byte {
+    pub no: u8,
+    pub value: u8,
+}
+
+pub struct Bytes {
+    pub no: u8,
+    pub bytes: [u8; 16],
+}
+
+pub struct Cycle {
+    pub no: u8,
+    pub cycle: u64,
+}
+
+pub struct Count {
+    pub no: u8,
+    pub count: usize,
+}
+
+pub struct Flag {
+    pub no: u8,
+    pub yes: bool,
+}
+
+pub struct Outputs {
+    pub no: u8,
+    pub a: f32,
+    pub b: f32,
+    pub c: f32,
+}
+
+pub struct Sample {
+    pub no: u8,
+    pub word: u16,
+    pub ticks: u64,
+}
+
+pub struct Sampled {
+    pub chip: Chip,
+    pub answer: Sample,
+}
+
+pub struct Played {
+    pub no: u8,
+    pub words: usize,
+    pub ticks: u64,
+}
+
+pub struct Blocked {
+    pub chip: Chip,
+    pub answer: Played,
+}
+
+pub fn accepted(chip: Chip) -> Answered
+    ensures { λ r. ⌜ r ≡ answered accepted chip ⌝ }
+{
+    Answered {
+        chip,
+        no: refusals::ACCEPTED,
+    }
+}
+
+pub fn refused(chip: Chip) -> Answered
+    ensures { λ r. ⌜ r ≡ answered outOfRange chip ⌝ }
+{
+    Answered {
+        chip,
+        no: refusals::OUT_OF_RANGE,
+    }
+}
+
+pub fn with_voice(chip: Chip, voice: Voice) -> Chip
+    ensures { λ r. ⌜ r ≡ withVoice voice chip ⌝ }
+{
+    let mut core = chip.core;
+    core.voice = voice;
+    let mut after = chip;
+    after.core = core;
+    after
+}

@@ -1,0 +1,45 @@
+-- Stamps, the next word's start, and the queue. 01, "Registers and ports". Assumes nothing.
+use Prim.Native.Nat.{ℕ}
+use mathlib.Core.Bool.{cond}
+use Rattle.answers.specs.Answers.{does, onVoice, withCore, withQueue}
+use Rattle.answers.specs.declared.Answered.{Answered}
+use Rattle.answers.specs.declared.Count.{Count}
+use Rattle.answers.specs.declared.Cycle.{Cycle}
+use Rattle.clocking.specs.declared.Chip.{Chip}
+use Rattle.queue.specs.Waiting.{applyAll, emptied, waiting}
+use Rattle.chip.specs.Range.{chipIn}
+use Rattle.refusals.specs.Numbers.{accepted, outOfRange}
+
+abbrev pub withTimes : ℕ → ℕ → Chip → Chip
+withTimes stamp start c =
+    let k = c .core in
+    withCore (record {
+      clocks = k .clocks;
+      voice = k .voice;
+      channels = k .channels;
+      selected = k .selected;
+      accumulator = k .accumulator;
+      stamp = stamp;
+      start = start;
+    }) c
+
+-- Setting the CPU cycle sets the stamp of later writes; syncing sets the stamp and the next word's start.
+unfoldable pub setCpuCycle : ℕ → Chip → Answered
+setCpuCycle cycle c = does (withTimes cycle (c .core .start)) c
+
+unfoldable pub cpuCycle : Chip → Cycle
+cpuCycle c = cond (chipIn c) (record { no = accepted; cycle = c .core .stamp }) (record { no = outOfRange; cycle = 0 })
+
+unfoldable pub syncSampleCycle : ℕ → Chip → Answered
+syncSampleCycle cycle c = does (withTimes cycle cycle) c
+
+-- A flush applies all waiting writes in order.
+abbrev pub flushed : Chip → Chip
+flushed c = withQueue (emptied (c .queue)) (onVoice (applyAll (waiting (c .queue))) c)
+
+unfoldable pub flushPendingWrites : Chip → Answered
+flushPendingWrites c = does flushed c
+
+-- the waiting count is the list's length (`length-waiting`)
+unfoldable pub pendingWriteCount : Chip → Count
+pendingWriteCount c = cond (chipIn c) (record { no = accepted; count = c .queue .count }) (record { no = outOfRange; count = 0 })

@@ -1,0 +1,60 @@
+-- New chips and reset. 01, "Numbers a call can answer" and "Power-on and reset". Assumes nothing.
+use Prim.Native.Nat.{ℕ}
+use lib.Dec.{eqb}
+use mathlib.Core.Bool.{cond}
+use Rattle.answers.specs.Answers.{answered, does}
+use Rattle.answers.specs.declared.Answered.{Answered}
+use Rattle.clocking.specs.declared.Chip.{Chip}
+use Rattle.clocking.specs.declared.Clocks.{Clocks}
+use Rattle.envelope.specs.Envelope.{start}
+use Rattle.mixer.specs.Mix.{allQuiet, channelsReset}
+use Rattle.queue.specs.Waiting.{empty}
+use Rattle.chip.specs.Clocks.{clocksNo, clocksOf}
+use Rattle.refusals.specs.Numbers.{accepted}
+use Rattle.registers.specs.Reset.{voiceNew, voiceReset}
+
+-- A new chip: power-on is the reset of a blank.
+unfoldable pub madeOf : Clocks → Chip
+madeOf clocks =
+    record {
+      core = record {
+        clocks = clocks;
+        voice = voiceNew;
+        channels = allQuiet;
+        selected = 0;
+        accumulator = 0;
+        stamp = 0;
+        start = 0;
+      };
+      queue = empty;
+    }
+
+-- The default clocks are 2,000,000 and 44,100.
+unfoldable pub fresh : Chip
+fresh = madeOf (clocksOf 2000000 44100)
+
+-- Refused clocks give a fresh default chip.
+unfoldable pub withClocks : ℕ → ℕ → Answered
+withClocks master rate =
+    cond (eqb (clocksNo master rate) accepted) (answered accepted (madeOf (clocksOf master rate)))
+    (answered (clocksNo master rate) fresh)
+
+-- Reset: registers, generators and channels as reset; selection, accumulator, stamp and the next word's start to 0; queue empty.
+-- It keeps noise period, envelope period, mutes and each channel's last amplitude.
+unfoldable pub resetOf : Chip → Chip
+resetOf c =
+    record {
+      core = record {
+        clocks = c .core .clocks;
+        voice = voiceReset (c .core .voice);
+        channels = channelsReset (c .core .channels);
+        selected = 0;
+        accumulator = 0;
+        stamp = 0;
+        start = 0;
+      };
+      queue = empty;
+    }
+
+unfoldable pub resetCall : Chip → Answered
+resetCall c = does resetOf c

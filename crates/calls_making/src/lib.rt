@@ -1,0 +1,73 @@
+// New chips and reset. 01, "Power-on and reset".
+ghost use mathlib.Core.Path.{_≡_};
+ghost use Rattle.calls_making.specs.Making.{fresh, madeOf, resetCall, withClocks};
+use answers::Answered;
+use clocking::Chip;
+use clocking::Clocks;
+use clocking::Core;
+use mixer::Channels;
+use queue::Queue;
+use registers::Voice;
+
+pub const DEFAULT_MASTER_CLOCK: u32 = 2_000_000;
+
+pub const DEFAULT_SAMPLE_RATE: u32 = 44_100;
+
+pub fn new() -> Chip
+    ensures { λ r. ⌜ r ≡ fresh ⌝ }
+{
+    made(chip::clocks_of(DEFAULT_MASTER_CLOCK, DEFAULT_SAMPLE_RATE))
+}
+
+// Refused clocks give a fresh default chip.
+pub fn with_clocks(master: u32, rate: u32) -> Answered
+    ensures { λ r. ⌜ r ≡ withClocks master rate ⌝ }
+{
+    let no = chip::clocks_no(master, rate);
+    if no != refusals::ACCEPTED {
+        let chip = new();
+        return Answered { chip, no };
+    }
+    answers::accepted(made(chip::clocks_of(master, rate)))
+}
+
+// Not a new chip: noise and envelope periods, mutes and last amplitudes stay.
+pub fn reset(chip: Chip) -> Answered
+    ensures { λ r. ⌜ r ≡ resetCall chip ⌝ }
+{
+    if !chip::in_range(chip) {
+        return answers::refused(chip);
+    }
+    let clocks = chip.core.clocks;
+    let voice = chip.core.voice.reset();
+    let channels = chip.core.channels.reset();
+    let queue = Queue::new();
+    let core = Core {
+        clocks,
+        voice,
+        channels,
+        selected: 0,
+        accumulator: 0,
+        stamp: 0,
+        start: 0,
+    };
+    answers::accepted(Chip { core, queue })
+}
+
+fn made(clocks: Clocks) -> Chip
+    ensures { λ r. ⌜ r ≡ madeOf clocks ⌝ }
+{
+    let voice = Voice::new();
+    let channels = Channels::new();
+    let queue = Queue::new();
+    let core = Core {
+        clocks,
+        voice,
+        channels,
+        selected: 0,
+        accumulator: 0,
+        stamp: 0,
+        start: 0,
+    };
+    Chip { core, queue }
+}

@@ -1,0 +1,48 @@
+-- `calls_ports::write_port` meets its contract: what passes the record's test is what a push asks. Assumes nothing.
+use mathlib.Core.Path.{ap, _∙_}
+use Rattle.laws.proofs.Tests.{on-no, on-yes, on-eq, on-ne}
+use Rattle.answers.proofs.Laws.{in-range}
+use Rattle.calls_ports.specs.Ports.{queued, writePort}
+use borrow.Author.Needs.{needs}
+use Rattle.calls_ports.proofs.write_port.Statement.{statement}
+use Rattle.calls_ports.proofs.write_port.Tie as tie
+
+in-range-requires : tie.Need-in-range-requires
+in-range-requires c κs = search needs
+
+refused-requires : tie.Need-refused-requires
+refused-requires c κs = search needs
+
+returns : tie.Need-returns
+unfolding writePort
+returns c = on-no _ _ _ _ _ (c .before .before .in-range .ensures) (c .before .if1 .taken) (c .refused .ensures)
+
+with-selection-requires : tie.Need-with-selection-requires
+with-selection-requires c κs = search needs
+
+accepted-requires : tie.Need-accepted-requires
+accepted-requires c κs = search needs
+
+returns-2 : tie.Need-returns-2
+unfolding writePort
+returns-2 c = on-yes _ _ _ _ _ (c .before .before .before .before .in-range .ensures) (c .before .before .before .if1 .left) (on-eq _ 0 _ _ _ (c .before .before .if2 .taken) (c .accepted .ensures ∙ rw (c .before .with-selection .ensures)))
+
+push-requires : tie.Need-push-requires
+push-requires c κs = in-range _ (c .before .before .in-range .ensures) (record { registers = search needs; stamps = search needs; numbers = search needs; values = search needs }) (c .before .if1 .left) .queue
+
+returns-3 : tie.Need-returns-3
+unfolding writePort
+returns-3 c = on-yes _ _ _ _ _ (c .before .before .before .before .before .in-range .ensures) (c .before .before .before .before .if1 .left) (on-ne _ 0 _ _ _ (c .before .before .before .if2 .left) (ap (queued (c .before .before .before .before .before .before .args .chip)) (c .before .before .push .ensures .ring)))
+
+pub write-port-spec : {M : Type 1} → statement M
+write-port-spec =
+    tie.close
+    (tie.spec
+    in-range-requires
+    refused-requires
+    returns
+    with-selection-requires
+    accepted-requires
+    returns-2
+    push-requires
+    returns-3)

@@ -1,0 +1,81 @@
+// The ports. 01, "Registers and ports".
+ghost use mathlib.Core.Path.{_≡_};
+ghost use Rattle.calls_ports.specs.Ports.{readPort, withSelection, writePort, writePortImmediate};
+use answers::Answered;
+use answers::Byte;
+use clocking::Chip;
+use queue::Write;
+
+// Port bit 1 clear selects at once; set, it queues the write.
+pub fn write_port(chip: Chip, port: u8, value: u8) -> Answered
+    ensures { λ r. ⌜ r ≡ writePort port value chip ⌝ }
+{
+    if !chip::in_range(chip) {
+        return answers::refused(chip);
+    }
+    if port / 2 % 2 == 0 {
+        return answers::accepted(with_selection(chip, value % 16));
+    }
+    let write = Write {
+        stamp: chip.core.stamp,
+        register: chip.core.selected,
+        value,
+    };
+    let pushed = chip.queue.push(write);
+    let core = chip.core;
+    let queue = pushed.queue;
+    let after = Chip { core, queue };
+    Answered {
+        chip: after,
+        no: pushed.no,
+    }
+}
+
+pub fn write_port_immediate(chip: Chip, port: u8, value: u8) -> Answered
+    ensures { λ r. ⌜ r ≡ writePortImmediate port value chip ⌝ }
+{
+    if !chip::in_range(chip) {
+        return answers::refused(chip);
+    }
+    if port / 2 % 2 == 0 {
+        return answers::accepted(with_selection(chip, value % 16));
+    }
+    let voice = chip.core.voice.apply_register(chip.core.selected, value);
+    answers::accepted(answers::with_voice(chip, voice))
+}
+
+pub fn read_port(chip: Chip, port: u8) -> Byte
+    ensures { λ r. ⌜ r ≡ readPort port chip ⌝ }
+{
+    if !chip::in_range(chip) {
+        return Byte {
+            no: refusals::OUT_OF_RANGE,
+            value: 0,
+        };
+    }
+    let selected = chip.core.selected;
+    if port / 2 % 2 == 0 {
+        if selected < registers::REGISTERS {
+            let at = selected as usize;
+            let voice = chip.core.voice;
+            return Byte {
+                no: refusals::ACCEPTED,
+                value: voice.registers[at],
+            };
+        }
+    }
+    Byte {
+        no: refusals::ACCEPTED,
+        value: 0xff,
+    }
+}
+
+fn with_selection(chip: Chip, selected: u8) -> Chip
+    ensures { λ r. ⌜ r ≡ withSelection selected chip ⌝ }
+{
+    let mut core = chip.core;
+    core.selected = selected;
+    let mut after = chip;
+    after.core = core;
+    after
+}

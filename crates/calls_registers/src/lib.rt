@@ -1,0 +1,86 @@
+// Register writes and reads. 01, "Registers and ports".
+ghost use mathlib.Core.Path.{_≡_};
+ghost use Rattle.calls_registers.specs.Stored.{dumpRegisters, loadRegisters, readRegister, writeRegister};
+use answers::Answered;
+use answers::Byte;
+use answers::Bytes;
+use clocking::Chip;
+
+pub fn write_register(chip: Chip, register: u8, value: u8) -> Answered
+    ensures { λ r. ⌜ r ≡ writeRegister register value chip ⌝ }
+{
+    if !chip::in_range(chip) {
+        return answers::refused(chip);
+    }
+    let voice = chip.core.voice.apply_register(register, value);
+    answers::accepted(answers::with_voice(chip, voice))
+}
+
+pub fn read_register(chip: Chip, register: u8) -> Byte
+    ensures { λ r. ⌜ r ≡ readRegister register chip ⌝ }
+{
+    if !chip::in_range(chip) {
+        return Byte {
+            no: refusals::OUT_OF_RANGE,
+            value: 0,
+        };
+    }
+    if register >= registers::REGISTERS {
+        return Byte {
+            no: refusals::ACCEPTED,
+            value: 0,
+        };
+    }
+    let at = register as usize;
+    let voice = chip.core.voice;
+    Byte {
+        no: refusals::ACCEPTED,
+        value: voice.registers[at],
+    }
+}
+
+// Bytes 0 to 13 in order; 14 and 15 are not written.
+pub fn load_registers(chip: Chip, bytes: [u8; 16]) -> Answered
+    ensures { λ r. ⌜ r ≡ loadRegisters bytes chip ⌝ }
+{
+    if !chip::in_range(chip) {
+        return answers::refused(chip);
+    }
+    let voice = chip.core.voice.load_registers(bytes);
+    answers::accepted(answers::with_voice(chip, voice))
+}
+
+pub fn dump_registers(chip: Chip) -> Bytes
+    ensures { λ r. ⌜ r ≡ dumpRegisters chip ⌝ }
+{
+    if !chip::in_range(chip) {
+        return Bytes {
+            no: refusals::OUT_OF_RANGE,
+            bytes: [0; 16],
+        };
+    }
+    let voice = chip.core.voice;
+    let r = voice.registers;
+    let bytes = [
+        r[0],
+        r[1],
+        r[2],
+        r[3],
+        r[4],
+        r[5],
+        r[6],
+        r[7],
+        r[8],
+        r[9],
+        r[10],
+        r[11],
+        r[12],
+        r[13],
+        0,
+        0,
+    ];
+    Bytes {
+        no: refusals::ACCEPTED,
+        bytes,
+    }
+}

@@ -1,0 +1,45 @@
+-- One word, and a block. 01, "Numbers a call can answer" and "One tick, one word". Assumes nothing.
+use Prim.Native.Nat.{_*_, _+_, _^_, ℕ}
+use lib.Dec.{eqb, leb, ltb}
+use lib.ListN.{getD, length}
+use mathlib.Core.Bool.{cond}
+use mathlib.Core.List.{List, [], _∷_}
+use Rattle.answers.specs.declared.Blocked.{Blocked}
+use Rattle.answers.specs.declared.Sampled.{Sampled}
+use Rattle.clocking.specs.Word.{afterWords, ticksOf, wordsOf}
+use Rattle.clocking.specs.declared.Chip.{Chip}
+use Rattle.chip.specs.Range.{chipIn}
+use Rattle.refusals.specs.Numbers.{accepted, blockTooLate, blockTooLong, outOfRange}
+
+-- block buffer longer than 65,536 words; block's last word would end past cycle 2^64 - 1; in this order
+unfoldable pub blockNumber : ℕ → ℕ → ℕ → ℕ
+blockNumber n start cycles =
+    cond (ltb 65536 n) blockTooLong
+    (cond (leb (2 ^ 64) (start + n * cycles)) blockTooLate
+    accepted)
+
+abbrev pub blockNo : ℕ → Chip → ℕ
+blockNo n c = blockNumber n (c .core .start) (c .core .clocks .cycles)
+
+-- nothing changes, 0 words, 0 ticks
+abbrev pub blockRefused : ℕ → Chip → Blocked
+blockRefused number c = record { chip = c; answer = record { no = number; words = 0; ticks = 0 } }
+
+-- A block of n words answers the words and the ticks run.
+abbrev pub blockPlayed : ℕ → Chip → Blocked
+blockPlayed n c = record { chip = afterWords n c; answer = record { no = accepted; words = n; ticks = ticksOf n c } }
+
+unfoldable pub blocked : ℕ → Chip → Blocked
+blocked n c =
+    cond (chipIn c) (cond (eqb (blockNo n c) accepted) (blockPlayed n c) (blockRefused (blockNo n c) c))
+    (blockRefused outOfRange c)
+
+-- It fills the lent buffer, or leaves every word of it.
+unfoldable pub blockBuffer : List ℕ → Chip → List ℕ
+blockBuffer out c = cond (chipIn c) (cond (eqb (blockNo (length out) c) accepted) (wordsOf (length out) c) out) out
+
+-- One word is a block of one; refused, its word is 0.
+unfoldable pub sampled : Chip → Sampled
+sampled c =
+    let b = blocked 1 c in
+    record { chip = b .chip; answer = record { no = b .answer .no; word = getD (blockBuffer (0 ∷ []) c) 0 0; ticks = b .answer .ticks } }

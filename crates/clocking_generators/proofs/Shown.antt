@@ -1,0 +1,148 @@
+-- A tick of what stands for the generators is the generators' tick. Assumes nothing.
+use mathlib.Core.Bool.{true, false}
+use mathlib.Core.Path.{_≡_, refl, sym, ap, ap₂, _∙_}
+use Prim.Native.Nat.{ℕ, _+_, _*_, _/_, _%_, _^_, _≤_, _<_, max}
+use native.Mathlib.Nat.{mod-eq-of-lt}
+use native.Mathlib.Omega.{arith}
+use borrow.Author.Tests.{le-leb, lt-leb}
+use lib.Bits.{bitAnd, bitOr, bitXor, and-comm, and-mask, and-high, or-zero-r, or-zero-l, xor-zero-r}
+use Rattle.laws.proofs.Tests.{by-le, by-cond}
+use Rattle.tables.specs.Masks.{fiveBits}
+use Rattle.tone.specs.Tone.{toneTick}
+use Rattle.noise.specs.Noise.{noiseTick}
+use Rattle.envelope.specs.Envelope.{envelopeTick}
+use Rattle.generators.specs.declared.Generators.{Generators}
+use Rattle.generators.specs.Generators.{tick, edgesOf}
+use Rattle.generators.specs.Range.{GeneratorsInRange}
+use Rattle.clocking_generators.specs.declared.Turning.{Turning}
+use Rattle.clocking_generators.specs.Turning.{Held, aTurned, bTurned, cTurned, envelopeTurned, noiseTurned, shown, turned, turningOf}
+use Rattle.clocking_generators.proofs.Digits.{and-xor, and-or}
+
+-- one part of a tick of the generators
+abbrev afterA : Generators → Generators
+afterA g = record { a = toneTick (fiveBits 0) (g .a); b = g .b; c = g .c; noise = g .noise; envelope = g .envelope }
+
+abbrev afterB : Generators → Generators
+afterB g = record { a = g .a; b = toneTick (fiveBits 1) (g .b); c = g .c; noise = g .noise; envelope = g .envelope }
+
+abbrev afterC : Generators → Generators
+afterC g = record { a = g .a; b = g .b; c = toneTick (fiveBits 2) (g .c); noise = g .noise; envelope = g .envelope }
+
+abbrev afterEnvelope : Generators → Generators
+afterEnvelope g = record { a = g .a; b = g .b; c = g .c; noise = g .noise; envelope = envelopeTick (g .envelope) }
+
+abbrev afterNoise : Generators → Generators
+afterNoise g = record { a = g .a; b = g .b; c = g .c; noise = noiseTick (g .noise); envelope = g .envelope }
+
+-- a channel's flip is seen by its own mask, and by no other
+own : (e bits : ℕ) → bitAnd bits bits ≡ bits → bitAnd (bitXor e bits) bits ≡ bitXor (bitAnd e bits) bits
+own e bits h = and-xor e bits bits ∙ ap (bitXor (bitAnd e bits)) h
+
+other : (e bits mask : ℕ) → bitAnd bits mask ≡ 0 → bitAnd (bitXor e bits) mask ≡ bitAnd e mask
+other e bits mask h = and-xor e bits mask ∙ ap (bitXor (bitAnd e mask)) h ∙ xor-zero-r (bitAnd e mask)
+
+shown-a : (t : Turning) → shown (aTurned t) ≡ afterA (shown t)
+unfolding aTurned shown toneTick
+shown-a t =
+    by-le (λ (z : Turning). shown z ≡ afterA (shown t)) (t .rest .a .period) (t .a + 1)
+    (λ h. rw (le-leb _ _ h, own (t .edges) (fiveBits 0) refl, other (t .edges) (fiveBits 0) (fiveBits 1) refl, other (t .edges) (fiveBits 0) (fiveBits 2) refl))
+    (λ h. rw (lt-leb _ _ h))
+
+shown-b : (t : Turning) → shown (bTurned t) ≡ afterB (shown t)
+unfolding bTurned shown toneTick
+shown-b t =
+    by-le (λ (z : Turning). shown z ≡ afterB (shown t)) (t .rest .b .period) (t .b + 1)
+    (λ h. rw (le-leb _ _ h, own (t .edges) (fiveBits 1) refl, other (t .edges) (fiveBits 1) (fiveBits 0) refl, other (t .edges) (fiveBits 1) (fiveBits 2) refl))
+    (λ h. rw (lt-leb _ _ h))
+
+shown-c : (t : Turning) → shown (cTurned t) ≡ afterC (shown t)
+unfolding cTurned shown toneTick
+shown-c t =
+    by-le (λ (z : Turning). shown z ≡ afterC (shown t)) (t .rest .c .period) (t .c + 1)
+    (λ h. rw (le-leb _ _ h, own (t .edges) (fiveBits 2) refl, other (t .edges) (fiveBits 2) (fiveBits 0) refl, other (t .edges) (fiveBits 2) (fiveBits 1) refl))
+    (λ h. rw (lt-leb _ _ h))
+
+shown-envelope : (t : Turning) → shown (envelopeTurned t) ≡ afterEnvelope (shown t)
+unfolding envelopeTurned shown envelopeTick
+shown-envelope t =
+    by-le (λ (z : Turning). shown z ≡ afterEnvelope (shown t)) (t .rest .envelope .period) (t .envelope + 1)
+    (λ h. rw (le-leb _ _ h))
+    (λ h. rw (lt-leb _ _ h))
+
+shown-noise : (t : Turning) → shown (noiseTurned t) ≡ afterNoise (shown t)
+unfolding noiseTurned shown noiseTick
+shown-noise t =
+    by-cond (λ (z : Turning). shown z ≡ afterNoise (shown t)) (t .half) _ _
+    (λ e. rw e)
+    (λ e.
+    by-le (λ (z : Turning). shown z ≡ afterNoise (shown t)) (max (t .rest .noise .period) 1) (t .noise + 1)
+    (λ h. rw (e, le-leb _ _ h))
+    (λ h. rw (e, lt-leb _ _ h)))
+
+pub shown-tick : (t : Turning) → shown (turned t) ≡ tick (shown t)
+unfolding turned tick
+shown-tick t =
+    shown-noise _
+    ∙ ap afterNoise (shown-envelope _
+    ∙ ap afterEnvelope (shown-c _ ∙ ap afterC (shown-b _ ∙ ap afterB (shown-a t))))
+
+-- the edges side by side are the word
+pub shown-edges : (t : Turning) → t .edges < 32768 → edgesOf (shown t) ≡ t .edges
+unfolding edgesOf shown
+shown-edges t h =
+    let e = t .edges in
+    let join : (p q : ℕ) → bitOr (bitAnd e p) (bitAnd e q) ≡ bitAnd e (bitOr p q)
+    = λ p q. ap₂ bitOr (and-comm e p) (and-comm e q) ∙ sym (and-or p q e) ∙ and-comm (bitOr p q) e
+    in
+    ap (λ (x : ℕ). bitOr x (bitAnd e (fiveBits 2))) (join (fiveBits 0) (fiveBits 1))
+    ∙ join (bitOr (fiveBits 0) (fiveBits 1)) (fiveBits 2)
+    ∙ and-mask e 15
+    ∙ mod-eq-of-lt h
+
+-- Three tones' edges in one word, and each read back by its mask.
+record Reads (a b c : ℕ) : Type 0 where
+  pub of-a : bitAnd (bitOr (bitOr a b) c) (fiveBits 0) ≡ a
+  pub of-b : bitAnd (bitOr (bitOr a b) c) (fiveBits 1) ≡ b
+  pub of-c : bitAnd (bitOr (bitOr a b) c) (fiveBits 2) ≡ c
+
+module _ (a b c : ℕ) (low-b : b % 32 ≡ 0) (low-c : c % 1024 ≡ 0) (high-a : a < 32) (high-b : b < 1024) (high-c : c < 32768) where
+  spread : (mask : ℕ) → bitAnd (bitOr (bitOr a b) c) mask ≡ bitOr (bitOr (bitAnd a mask) (bitAnd b mask)) (bitAnd c mask)
+  spread mask = and-or (bitOr a b) c mask ∙ ap (λ (x : ℕ). bitOr x (bitAnd c mask)) (and-or a b mask)
+
+  by-a : (n r : ℕ) → n % 32 ≡ r → bitAnd n (fiveBits 0) ≡ r
+  by-a n r h = and-mask n 5 ∙ h
+
+  by-b : (n r : ℕ) → n / 32 % 32 * 32 ≡ r → bitAnd n (fiveBits 1) ≡ r
+  by-b n r h = and-high n 5 5 ∙ h
+
+  by-c : (n r : ℕ) → n / 1024 % 32 * 1024 ≡ r → bitAnd n (fiveBits 2) ≡ r
+  by-c n r h = and-high n 5 10 ∙ h
+
+  read-a : bitAnd (bitOr (bitOr a b) c) (fiveBits 0) ≡ a
+  read-a =
+      spread (fiveBits 0)
+      ∙ ap₂ bitOr (ap₂ bitOr (by-a a a (omega arith)) (by-a b 0 (omega arith)) ∙ or-zero-r a) (by-a c 0 (omega arith))
+      ∙ or-zero-r a
+
+  read-b : bitAnd (bitOr (bitOr a b) c) (fiveBits 1) ≡ b
+  read-b =
+      spread (fiveBits 1)
+      ∙ ap₂ bitOr (ap₂ bitOr (by-b a 0 (omega arith)) (by-b b b (omega arith)) ∙ or-zero-l b) (by-b c 0 (omega arith))
+      ∙ or-zero-r b
+
+  read-c : bitAnd (bitOr (bitOr a b) c) (fiveBits 2) ≡ c
+  read-c =
+      spread (fiveBits 2)
+      ∙ ap₂ bitOr (ap₂ bitOr (by-c a 0 (omega arith)) (by-c b 0 (omega arith))) (by-c c c (omega arith))
+      ∙ or-zero-l c
+
+  reads : Reads a b c
+  reads = record { of-a = read-a; of-b = read-b; of-c = read-c }
+
+pub shown-of : {g : Generators} → GeneratorsInRange g → shown (turningOf g) ≡ g
+unfolding shown turningOf edgesOf
+shown-of {g} r =
+    let at : Reads (g .a .edges) (g .b .edges) (g .c .edges)
+    = reads (g .a .edges) (g .b .edges) (g .c .edges) (r .b .low) (r .c .low) (r .a .high) (r .b .high) (r .c .high)
+    in
+    rw (at .of-a, at .of-b, at .of-c)

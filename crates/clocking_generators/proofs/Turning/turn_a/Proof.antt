@@ -1,0 +1,25 @@
+-- `clocking_generators::Turning::turn_a` meets its contract. Assumes nothing.
+use Rattle.laws.proofs.Tests.{tests}
+use Rattle.clocking_generators.specs.Turning.{aTurned}
+use native.Mathlib.Omega.{arith}
+use Rattle.clocking_generators.proofs.Held.{held-tones, flipped-lt}
+use borrow.Author.Needs.{needs}
+use Rattle.clocking_generators.proofs.Turning.turn_a.Statement.{statement}
+use Rattle.clocking_generators.proofs.Turning.turn_a.Tie as tie
+
+add-count : tie.Need-add-count
+add-count c = search needs
+
+cast-if1 : tie.Need-cast-if1
+cast-if1 c = search needs
+
+returns : tie.Need-returns
+unfolding aTurned
+returns c = (search tests, held-tones _ _ _ _ (c .before .before .before .pre) (omega arith) (omega arith) (omega arith) (c .before .before .before .pre .edges))
+
+returns-2 : tie.Need-returns-2
+unfolding aTurned
+returns-2 c = (search tests, held-tones _ _ _ _ (c .before .before .before .before .pre) (omega arith) (omega arith) (omega arith) (flipped-lt (c .before .before .before .before .pre .edges) (omega arith)))
+
+pub turn-a-spec : {M : Type 1} → statement M
+turn-a-spec = tie.close (tie.spec add-count cast-if1 returns returns-2)

@@ -1,0 +1,143 @@
+-- The generators while ticks run, and what they mean. 01, "One tick, one word". No contract of a call that a user makes cites this
+-- page. Assumes nothing.
+use mathlib.Core.Bool.{Bool, true, false, cond}
+use Prim.Native.Nat.{ℕ, _+_, _≤_, _<_, max}
+use lib.Bits.{bitAnd, bitXor}
+use lib.Dec.{leb}
+use lib.IntN.{ℤ}
+use lib.Signed.{mag}
+use Rattle.tables.specs.Masks.{fiveBits}
+use Rattle.tone.specs.declared.Tone.{Tone}
+use Rattle.noise.specs.declared.Noise.{Noise}
+use Rattle.noise.specs.Noise.{registerStep, outputBy}
+use Rattle.envelope.specs.declared.Envelope.{Envelope}
+use Rattle.envelope.specs.Envelope.{nextPosition}
+use Rattle.generators.specs.declared.Generators.{Generators}
+use Rattle.generators.specs.Generators.{edgesOf}
+use Rattle.clocking_generators.specs.declared.Turning.{Turning}
+
+-- What it means: the counters in their places, each channel's edges by its five bits.
+abbrev pub toneShown : ℕ → ℕ → Tone → Tone
+toneShown counter edges t = record { counter = counter; period = t .period; edges = edges; pending = t .pending }
+
+abbrev pub noiseShown : Turning → Noise → Noise
+noiseShown t n = record { counter = t .noise; period = n .period; register = t .register; output = t .output; half = t .half }
+
+abbrev pub envelopeShown : Turning → Envelope → Envelope
+envelopeShown t e = record { counter = t .envelope; period = e .period; position = t .position; offset = e .offset }
+
+unfoldable pub shown : Turning → Generators
+shown t =
+    record {
+      a = toneShown (t .a) (bitAnd (t .edges) (fiveBits 0)) (t .rest .a);
+      b = toneShown (t .b) (bitAnd (t .edges) (fiveBits 1)) (t .rest .b);
+      c = toneShown (t .c) (bitAnd (t .edges) (fiveBits 2)) (t .rest .c);
+      noise = noiseShown t (t .rest .noise);
+      envelope = envelopeShown t (t .rest .envelope);
+    }
+
+unfoldable pub turningOf : Generators → Turning
+turningOf g =
+    record {
+      rest = g;
+      a = g .a .counter;
+      b = g .b .counter;
+      c = g .c .counter;
+      edges = edgesOf g;
+      envelope = g .envelope .counter;
+      position = g .envelope .position;
+      noise = g .noise .counter;
+      register = g .noise .register;
+      output = g .noise .output;
+      half = g .noise .half;
+    }
+
+-- Counters to 65,535, as those that they stand for; edges within the fifteen bits; a position of 32 bits.
+pub record Held (t : Turning) : Type 0 where
+  pub a : t .a ≤ 65535
+  pub b : t .b ≤ 65535
+  pub c : t .c ≤ 65535
+  pub envelope : t .envelope ≤ 65535
+  pub noise : t .noise ≤ 65535
+  pub edges : t .edges < 32768
+  pub position : mag (t .position) < 2147483648
+
+-- One part changed.
+abbrev pub tones : ℕ → ℕ → ℕ → ℕ → Turning → Turning
+tones a b c edges t =
+    record {
+      rest = t .rest;
+      a = a;
+      b = b;
+      c = c;
+      edges = edges;
+      envelope = t .envelope;
+      position = t .position;
+      noise = t .noise;
+      register = t .register;
+      output = t .output;
+      half = t .half;
+    }
+
+abbrev pub withEnvelope : ℕ → ℤ → Turning → Turning
+withEnvelope counter position t =
+    record {
+      rest = t .rest;
+      a = t .a;
+      b = t .b;
+      c = t .c;
+      edges = t .edges;
+      envelope = counter;
+      position = position;
+      noise = t .noise;
+      register = t .register;
+      output = t .output;
+      half = t .half;
+    }
+
+abbrev pub withNoise : ℕ → ℕ → ℕ → Bool → Turning → Turning
+withNoise counter register output half t =
+    record {
+      rest = t .rest;
+      a = t .a;
+      b = t .b;
+      c = t .c;
+      edges = t .edges;
+      envelope = t .envelope;
+      position = t .position;
+      noise = counter;
+      register = register;
+      output = output;
+      half = half;
+    }
+
+-- A tick of each part, as of the generators that it stands for.
+unfoldable pub aTurned : Turning → Turning
+aTurned t =
+    cond (leb (t .rest .a .period) (t .a + 1)) (tones 0 (t .b) (t .c) (bitXor (t .edges) (fiveBits 0)) t)
+    (tones (t .a + 1) (t .b) (t .c) (t .edges) t)
+
+unfoldable pub bTurned : Turning → Turning
+bTurned t =
+    cond (leb (t .rest .b .period) (t .b + 1)) (tones (t .a) 0 (t .c) (bitXor (t .edges) (fiveBits 1)) t)
+    (tones (t .a) (t .b + 1) (t .c) (t .edges) t)
+
+unfoldable pub cTurned : Turning → Turning
+cTurned t =
+    cond (leb (t .rest .c .period) (t .c + 1)) (tones (t .a) (t .b) 0 (bitXor (t .edges) (fiveBits 2)) t)
+    (tones (t .a) (t .b) (t .c + 1) (t .edges) t)
+
+unfoldable pub envelopeTurned : Turning → Turning
+envelopeTurned t =
+    cond (leb (t .rest .envelope .period) (t .envelope + 1)) (withEnvelope 0 (nextPosition (t .position)) t)
+    (withEnvelope (t .envelope + 1) (t .position) t)
+
+unfoldable pub noiseTurned : Turning → Turning
+noiseTurned t =
+    cond (t .half) (withNoise (t .noise) (t .register) (t .output) false t)
+    (cond (leb (max (t .rest .noise .period) 1) (t .noise + 1))
+    (withNoise 0 (registerStep (t .register)) (outputBy (t .register)) true t)
+    (withNoise (t .noise + 1) (t .register) (t .output) true t))
+
+unfoldable pub turned : Turning → Turning
+turned t = noiseTurned (envelopeTurned (cTurned (bTurned (aTurned t))))

@@ -1,0 +1,63 @@
+-- The bytes that hold a frame's registers, byte after byte; loading them is the frame's writes. Assumes nothing.
+use mathlib.Core.Bool.{Bool, true, false}
+use mathlib.Core.Path.{_≡_, refl, sym, ap, _∙_}
+use mathlib.Core.List.{List}
+use mathlib.Core.Logic.{inl, inr}
+use Prim.Native.Nat.{ℕ, zero, suc, _+_, _*_, _≤_, _<_}
+use native.Mathlib.Numerals.{add-one}
+use native.Mathlib.Omega.{arith}
+use borrow.Author.Tests.{eqb-true}
+use lib.Dec.{eqb}
+use lib.ListN.{length, getD, set, length-set}
+use lib.Seq.{getD-set-same, getD-set-other}
+use Rattle.laws.proofs.Tests.{by-same}
+use Rattle.text.specs.Fields.{allHex, hexByte}
+use Rattle.text.proofs.Called.{both-held}
+use Rattle.dump.specs.Checked.{isFrame}
+use Rattle.registers.specs.Registers.{applyRegister, loadedFrom}
+use Rattle.registers.specs.declared.Voice.{Voice}
+use Rattle.dump_frames.specs.Frame.{writesFrom, frameWrites, written, Registers}
+
+-- a frame's value has 28 digits
+module _ (value : List ℕ) (e : isFrame value ≡ true) where
+  parts : (eqb (length value) 28 ≡ true) × (allHex value ≡ true)
+  unfolding isFrame
+  parts = both-held (eqb (length value) 28) (allHex value) e
+
+  pub frame-hex : allHex value ≡ true
+  frame-hex = parts .1
+
+  pub frame-room : {i : ℕ} → i < 14 → 2 * i + 1 < length value
+  frame-room h = let z : length value ≡ 28 = eqb-true (length value) 28 (parts .0) in omega arith
+
+-- the first i bytes hold their registers
+pub record Holding (value bytes : List ℕ) (i : ℕ) : Type 0 where
+  pub long : length bytes ≡ 16
+  pub few : i ≤ 14
+  pub held : (k : ℕ) → k < i → getD bytes k 0 ≡ hexByte value k
+
+pub holding-start : (value : List ℕ) {bytes : List ℕ} → length bytes ≡ 16 → Holding value bytes 0
+holding-start value l = record { long = l; few = omega arith; held = λ k h. absurd (omega arith) }
+
+pub holding-on : {value bytes : List ℕ} {i b : ℕ} → Holding value bytes i → i < 14 → b ≡ hexByte value i → Holding value (set bytes i b) (i + 1)
+holding-on {value} {bytes} {i} {b} m h e =
+    record {
+      long = length-set bytes i b ∙ m .long;
+      few = omega arith;
+      held = λ k g. by-same k i
+          (λ s. rw s (getD-set-same bytes i b 0 (omega (arith, m .long)) ∙ e))
+          (λ n. getD-set-other bytes i k b 0 n ∙ m .held k (omega arith));
+    }
+
+pub holding-ends : {value bytes : List ℕ} {i : ℕ} → Holding value bytes i → 14 ≤ i → Registers value bytes
+holding-ends m h k g = m .held k (omega arith)
+
+module _ (value bytes : List ℕ) (r : Registers value bytes) where
+  loaded-from : (n k : ℕ) → n + k ≤ 14 → (v : Voice) → loadedFrom n k bytes v ≡ written (writesFrom n k value) v
+  unfolding loadedFrom
+  loaded-from zero k h v = refl
+  loaded-from (suc n) k h v = rw (r k (omega arith)) (loaded-from n (k + 1) (omega arith) _)
+
+  pub loaded-frame : (v : Voice) → loadedFrom 14 0 bytes v ≡ written (frameWrites value) v
+  unfolding frameWrites
+  loaded-frame v = loaded-from 14 0 (omega arith) v

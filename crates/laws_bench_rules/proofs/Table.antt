@@ -1,0 +1,58 @@
+-- Every line of the table comes out by computing. Assumes nothing.
+use mathlib.Core.Path.{refl}
+use lib.Ieee.{mul, div, ofInt}
+use Rattle.text.specs.Fields.{needless, digits, decimalOf, hexValue, allHex, hexByte}
+use Rattle.text.specs.Lines.{span, lineAt, startsWith, valueAt}
+use Rattle.dump.specs.Checked.{entryAt as lineEntryAt, masterNo, rateNo, wordsNo, framesNo, isFrame, frameAt, framesFrom, sized, checked}
+use Rattle.tables.specs.Envelope.{shapeEntry, entryAt}
+use Rattle.tone.specs.Tone.{toneSet, toneTick}
+use Rattle.noise.specs.Noise.{registerStep, outputBy, noiseTick}
+use Rattle.envelope.specs.Envelope.{nextPosition, envelopeTick, placeOf, envelopeLevel}
+use Rattle.generators.specs.Generators.{tick, edgesOf, toneAt, putTone, tonesSet}
+use Rattle.generators.specs.Reset.{powerOnEdges, generatorsReset}
+use Rattle.gates.specs.Gates.{gatesFrom, gateOf}
+use Rattle.channel.specs.Channel.{drumOut, heard, sounded}
+use Rattle.channel.specs.Levels.{levelUsed, gatedLevel, loudnessOf}
+use Rattle.mixer.specs.Mix.{channelAt, putChannel, setMute, setDrum, mixed}
+use Rattle.registers.specs.Registers.{pairAt, tonePeriodSet, noisePeriodSet, gatesSet, envelopePeriodSet, shapeSet, voiceSet, masked, applyRegister}
+use Rattle.registers.specs.Reset.{voiceReset}
+use Rattle.queue.specs.Waiting.{writesFrom, waiting, due, applyAll, drain, queueIn}
+use Rattle.clocking.specs.Ticks.{ticking, ticked}
+use Rattle.clocking.specs.Word.{drained, ranOf, mixedOf, wordOf, afterWords, ticksOf, wordsOf}
+use Rattle.chip.specs.Clocks.{clocksNo}
+use Rattle.chip.specs.Range.{clocksIn, bytesIn, toneIn, allOrNone, noiseIn, envelopeIn, generatorsIn, gatesIn, voiceIn, coreIn, chipIn}
+use Rattle.calls_making.specs.Making.{madeOf, fresh, withClocks, resetOf, resetCall}
+use Rattle.calls_registers.specs.Stored.{writeRegister, readRegister}
+use Rattle.calls_effects.specs.Effects.{setChannelMute, setDrumSampleOverride}
+use Rattle.calls_words.specs.Blocks.{blockNumber, blocked, blockBuffer, sampled}
+use Rattle.dump_frames.specs.Frame.{frameWrites, frameChip}
+use Rattle.dump_frames.specs.Whole.{placeOf as framePlace, chipBefore, frameWords, wordsIn}
+use Rattle.dump_output.specs.Text.{spelt, linesOf}
+use Rattle.dump_output.specs.Printed.{totalText, printed}
+use Rattle.laws_bench_rules.specs.Setups.{ticks, shape8, drumAlone, resetAfter31}
+use Rattle.laws_bench_rules.specs.Table.{Table}
+
+pub table : Table
+unfolding ticks shape8 drumAlone resetAfter31 needless digits decimalOf hexValue allHex hexByte span lineAt startsWith valueAt lineEntryAt masterNo rateNo wordsNo framesNo isFrame frameAt framesFrom sized checked shapeEntry entryAt toneSet toneTick registerStep outputBy noiseTick nextPosition envelopeTick placeOf envelopeLevel tick edgesOf toneAt putTone tonesSet powerOnEdges generatorsReset gatesFrom gateOf drumOut heard sounded levelUsed gatedLevel loudnessOf channelAt putChannel setMute setDrum mixed pairAt tonePeriodSet noisePeriodSet gatesSet envelopePeriodSet shapeSet voiceSet masked applyRegister voiceReset writesFrom waiting due applyAll drain queueIn ticking ticked drained ranOf mixedOf wordOf afterWords ticksOf wordsOf clocksNo clocksIn bytesIn toneIn allOrNone noiseIn envelopeIn generatorsIn gatesIn voiceIn coreIn chipIn madeOf fresh withClocks resetOf resetCall writeRegister readRegister setChannelMute setDrumSampleOverride blockNumber blocked blockBuffer sampled frameWrites frameChip framePlace chipBefore frameWords wordsIn spelt linesOf totalText printed mul div ofInt
+table =
+    record {
+      seed = refl;
+      edges = (refl, refl);
+      noise = refl;
+      ticks = refl;
+      accumulator = refl;
+      first-word = refl;
+      dump = refl;
+      rate-250000 = refl;
+      rate-250001 = refl;
+      master-1073741824 = refl;
+      master-7 = refl;
+      shape-8 = (refl, refl);
+      position-63 = (refl, refl);
+      position-0 = (refl, refl);
+      drum-1 = (refl, refl);
+      drum-8 = (refl, refl);
+      r6 = refl;
+      tick-60 = refl;
+      tick-61 = refl;
+    }

@@ -1,0 +1,42 @@
+-- The calls of the dump player and of `exports` are settled, what they leave in lent buffers included (`Settled`). Assumes nothing.
+use denote.Ref.{now}
+use Rattle.text.proofs.decimal
+use Rattle.text.proofs.all_hex as all-hex
+use Rattle.text.proofs.hex_byte as hex-byte
+use Rattle.text.proofs.line_at as line-at
+use Rattle.text.proofs.value_at as value-at
+use Rattle.dump.proofs.reader
+use Rattle.dump.proofs.next_line as next-line
+use Rattle.dump.proofs.check
+use Rattle.dump.proofs.is_frame as is-frame
+use Rattle.dump_frames.proofs.play_frame as play-frame
+use Rattle.dump_output.proofs.put_bytes as put-bytes
+use Rattle.dump_output.proofs.put_number as put-number
+use Rattle.dump_output.proofs.put_words as put-words
+use Rattle.dump_output.proofs.refusal
+use Rattle.dump_output.proofs.total
+use Rattle.c_interface.proofs.ym2149_play as ym2149-play
+use Rattle.c_interface.proofs.ym2149_play_blocks as ym2149-play-blocks
+use Rattle.c_interface.proofs.ym2149_play_writes as ym2149-play-writes
+use Rattle.laws_one_answer.specs.Settled.{Settles, SettlesAs}
+
+pub record Played : Type 2 where
+  pub decimal : Settles decimal.ended (λ M. decimal.clauses)
+  pub all-hex : Settles all-hex.ended (λ M. all-hex.clauses)
+  pub hex-byte : Settles hex-byte.ended (λ M. hex-byte.clauses)
+  pub line-at : Settles line-at.ended (λ M. line-at.clauses)
+  -- a part of the caller's text: its bytes are settled; where they lie, no promise says
+  pub value-at : SettlesAs value-at.ended (λ M. value-at.clauses) (λ h x. now (x .0))
+  pub reader : Settles reader.ended (λ M. reader.clauses)
+  pub next-line : Settles next-line.ended (λ M. next-line.clauses)
+  pub check : Settles check.ended (λ M. check.clauses)
+  pub is-frame : Settles is-frame.ended (λ M. is-frame.clauses)
+  pub play-frame : Settles play-frame.ended (λ M. play-frame.clauses)
+  pub put-bytes : Settles put-bytes.ended (λ M. put-bytes.clauses)
+  pub put-number : Settles put-number.ended (λ M. put-number.clauses)
+  pub put-words : Settles put-words.ended (λ M. put-words.clauses)
+  pub refusal : Settles refusal.ended (λ M. refusal.clauses)
+  pub total : Settles total.ended (λ M. total.clauses)
+  pub ym2149-play : Settles ym2149-play.ended (λ M. ym2149-play.clauses)
+  pub ym2149-play-blocks : Settles ym2149-play-blocks.ended (λ M. ym2149-play-blocks.clauses)
+  pub ym2149-play-writes : Settles ym2149-play-writes.ended (λ M. ym2149-play-writes.clauses)

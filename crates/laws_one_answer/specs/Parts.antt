@@ -1,0 +1,149 @@
+-- The calls inside the layers are settled (`Settled`). Assumes nothing.
+use Prim.Native.Nat.{ℕ, _<_}
+use lib.ListN.{getD}
+use Rattle.tables.proofs.register_mask as register-mask
+use Rattle.tables.proofs.gate_mask as gate-mask
+use Rattle.tables.proofs.shape_offset as shape-offset
+use Rattle.tables.proofs.envelope_entries as envelope-entries
+use Rattle.tables.proofs.envelope_entry as envelope-entry
+use Rattle.tables.proofs.level_table as level-table
+use Rattle.tables.proofs.level
+use Rattle.tone.proofs.Tone.set_period as tone-set-period
+use Rattle.tone.proofs.Tone.is_half_amplitude as tone-is-half-amplitude
+use Rattle.tone.proofs.Tone.apply_pending_reset as tone-apply-pending-reset
+use Rattle.tone.proofs.Tone.tick as tone-tick
+use Rattle.tone.proofs.Tone.reset as tone-reset
+use Rattle.noise.proofs.Noise.set_period as noise-set-period
+use Rattle.noise.proofs.Noise.tick as noise-tick
+use Rattle.noise.proofs.Noise.reset as noise-reset
+use Rattle.noise.proofs.at_least_one as at-least-one
+use Rattle.noise.proofs.noise_step as noise-step
+use Rattle.noise.proofs.noise_output as noise-output
+use Rattle.envelope.proofs.Envelope.set_period as envelope-set-period
+use Rattle.envelope.proofs.Envelope.set_shape as envelope-set-shape
+use Rattle.envelope.proofs.Envelope.trigger as envelope-trigger
+use Rattle.envelope.proofs.Envelope.tick as envelope-tick
+use Rattle.envelope.proofs.Envelope.level as envelope-level
+use Rattle.envelope.proofs.Envelope.reset as envelope-reset
+use Rattle.envelope.proofs.next_position as next-position
+use Rattle.generators.proofs.Generators.new as generators-new
+use Rattle.generators.proofs.Generators.reset as generators-reset
+use Rattle.generators.proofs.Generators.set_tone_period as generators-set-tone-period
+use Rattle.generators.proofs.Generators.apply_pending_resets as generators-apply-pending-resets
+use Rattle.generators.proofs.Generators.tick as generators-tick
+use Rattle.generators.proofs.Generators.edges as generators-edges
+use Rattle.generators.proofs.power_on_edges as power-on-edges
+use Rattle.generators.proofs.random_seed as random-seed
+use Rattle.clocking_generators.proofs.Turning.of as turning-of
+use Rattle.clocking_generators.proofs.Turning.tick as turning-tick
+use Rattle.clocking_generators.proofs.Turning.generators as turning-generators
+use Rattle.gates.proofs.Gates.from_register as gates-from-register
+use Rattle.gates.proofs.Gates.gate as gates-gate
+use Rattle.channel.proofs.level_used as level-used
+use Rattle.channel.proofs.gated_level as gated-level
+use Rattle.channel.proofs.Channel.new as channel-new
+use Rattle.channel.proofs.Channel.with_mute as channel-with-mute
+use Rattle.channel.proofs.Channel.with_drum as channel-with-drum
+use Rattle.channel.proofs.Channel.reset as channel-reset
+use Rattle.channel.proofs.Channel.sound as channel-sound
+use Rattle.channel.proofs.Channel.compute_output as channel-compute-output
+use Rattle.mixer.proofs.Channels.new as channels-new
+use Rattle.mixer.proofs.Channels.reset as channels-reset
+use Rattle.mixer.proofs.Channels.set_mute as channels-set-mute
+use Rattle.mixer.proofs.Channels.is_muted as channels-is-muted
+use Rattle.mixer.proofs.Channels.set_drum_override as channels-set-drum-override
+use Rattle.mixer.proofs.Channels.mix as channels-mix
+use Rattle.registers.proofs.Voice.new as voice-new
+use Rattle.registers.proofs.Voice.reset as voice-reset
+use Rattle.registers.proofs.Voice.apply_register as voice-apply-register
+use Rattle.registers.proofs.Voice.load_registers as voice-load-registers
+use Rattle.queue.proofs.Queue.new as queue-new
+use Rattle.queue.proofs.Queue.in_range as queue-in-range
+use Rattle.queue.proofs.Queue.push as queue-push
+use Rattle.queue.proofs.Queue.flush as queue-flush
+use Rattle.queue.proofs.Queue.emptied as queue-emptied
+use Rattle.queue.proofs.drain
+use Rattle.clocking.proofs.run_ticks as run-ticks
+use Rattle.clocking.proofs.word
+use Rattle.clocking.proofs.render
+use Rattle.chip.proofs.clocks_no as clocks-no
+use Rattle.chip.proofs.clocks_of as clocks-of
+use Rattle.chip.proofs.in_range as in-range
+use Rattle.answers.proofs.accepted
+use Rattle.answers.proofs.refused
+use Rattle.answers.proofs.with_voice as with-voice
+use Rattle.laws_one_answer.specs.Settled.{Settles, SettlesAs}
+
+pub record Parts : Type 2 where
+  pub register-mask : Settles register-mask.ended (λ M. register-mask.clauses)
+  pub gate-mask : Settles gate-mask.ended (λ M. gate-mask.clauses)
+  pub shape-offset : Settles shape-offset.ended (λ M. shape-offset.clauses)
+  -- a table by its rule: each of its 1,280 entries is settled
+  pub envelope-entries : (i : ℕ) → i < 1280 → SettlesAs envelope-entries.ended (λ M. envelope-entries.clauses) (λ h x. getD (x .0) i 0)
+  pub envelope-entry : Settles envelope-entry.ended (λ M. envelope-entry.clauses)
+  pub level-table : Settles level-table.ended (λ M. level-table.clauses)
+  pub level : Settles level.ended (λ M. level.clauses)
+  pub tone-set-period : Settles tone-set-period.ended (λ M. tone-set-period.clauses)
+  pub tone-is-half-amplitude : Settles tone-is-half-amplitude.ended (λ M. tone-is-half-amplitude.clauses)
+  pub tone-apply-pending-reset : Settles tone-apply-pending-reset.ended (λ M. tone-apply-pending-reset.clauses)
+  pub tone-tick : Settles tone-tick.ended (λ M. tone-tick.clauses)
+  pub tone-reset : Settles tone-reset.ended (λ M. tone-reset.clauses)
+  pub noise-set-period : Settles noise-set-period.ended (λ M. noise-set-period.clauses)
+  pub noise-tick : Settles noise-tick.ended (λ M. noise-tick.clauses)
+  pub noise-reset : Settles noise-reset.ended (λ M. noise-reset.clauses)
+  pub at-least-one : Settles at-least-one.ended (λ M. at-least-one.clauses)
+  pub noise-step : Settles noise-step.ended (λ M. noise-step.clauses)
+  pub noise-output : Settles noise-output.ended (λ M. noise-output.clauses)
+  pub envelope-set-period : Settles envelope-set-period.ended (λ M. envelope-set-period.clauses)
+  pub envelope-set-shape : Settles envelope-set-shape.ended (λ M. envelope-set-shape.clauses)
+  pub envelope-trigger : Settles envelope-trigger.ended (λ M. envelope-trigger.clauses)
+  pub envelope-tick : Settles envelope-tick.ended (λ M. envelope-tick.clauses)
+  pub envelope-level : Settles envelope-level.ended (λ M. envelope-level.clauses)
+  pub envelope-reset : Settles envelope-reset.ended (λ M. envelope-reset.clauses)
+  pub next-position : Settles next-position.ended (λ M. next-position.clauses)
+  pub generators-new : Settles generators-new.ended (λ M. generators-new.clauses)
+  pub generators-reset : Settles generators-reset.ended (λ M. generators-reset.clauses)
+  pub generators-set-tone-period : Settles generators-set-tone-period.ended (λ M. generators-set-tone-period.clauses)
+  pub generators-apply-pending-resets : Settles generators-apply-pending-resets.ended (λ M. generators-apply-pending-resets.clauses)
+  pub generators-tick : Settles generators-tick.ended (λ M. generators-tick.clauses)
+  pub generators-edges : Settles generators-edges.ended (λ M. generators-edges.clauses)
+  pub power-on-edges : Settles power-on-edges.ended (λ M. power-on-edges.clauses)
+  pub random-seed : Settles random-seed.ended (λ M. random-seed.clauses)
+  pub turning-of : Settles turning-of.ended (λ M. turning-of.clauses)
+  pub turning-tick : Settles turning-tick.ended (λ M. turning-tick.clauses)
+  pub turning-generators : Settles turning-generators.ended (λ M. turning-generators.clauses)
+  pub gates-from-register : Settles gates-from-register.ended (λ M. gates-from-register.clauses)
+  pub gates-gate : Settles gates-gate.ended (λ M. gates-gate.clauses)
+  pub level-used : Settles level-used.ended (λ M. level-used.clauses)
+  pub gated-level : Settles gated-level.ended (λ M. gated-level.clauses)
+  pub channel-new : Settles channel-new.ended (λ M. channel-new.clauses)
+  pub channel-with-mute : Settles channel-with-mute.ended (λ M. channel-with-mute.clauses)
+  pub channel-with-drum : Settles channel-with-drum.ended (λ M. channel-with-drum.clauses)
+  pub channel-reset : Settles channel-reset.ended (λ M. channel-reset.clauses)
+  pub channel-sound : Settles channel-sound.ended (λ M. channel-sound.clauses)
+  pub channel-compute-output : Settles channel-compute-output.ended (λ M. channel-compute-output.clauses)
+  pub channels-new : Settles channels-new.ended (λ M. channels-new.clauses)
+  pub channels-reset : Settles channels-reset.ended (λ M. channels-reset.clauses)
+  pub channels-set-mute : Settles channels-set-mute.ended (λ M. channels-set-mute.clauses)
+  pub channels-is-muted : Settles channels-is-muted.ended (λ M. channels-is-muted.clauses)
+  pub channels-set-drum-override : Settles channels-set-drum-override.ended (λ M. channels-set-drum-override.clauses)
+  pub channels-mix : Settles channels-mix.ended (λ M. channels-mix.clauses)
+  pub voice-new : Settles voice-new.ended (λ M. voice-new.clauses)
+  pub voice-reset : Settles voice-reset.ended (λ M. voice-reset.clauses)
+  pub voice-apply-register : Settles voice-apply-register.ended (λ M. voice-apply-register.clauses)
+  pub voice-load-registers : Settles voice-load-registers.ended (λ M. voice-load-registers.clauses)
+  pub queue-new : Settles queue-new.ended (λ M. queue-new.clauses)
+  pub queue-in-range : Settles queue-in-range.ended (λ M. queue-in-range.clauses)
+  pub queue-push : Settles queue-push.ended (λ M. queue-push.clauses)
+  pub queue-flush : Settles queue-flush.ended (λ M. queue-flush.clauses)
+  pub queue-emptied : Settles queue-emptied.ended (λ M. queue-emptied.clauses)
+  pub drain : Settles drain.ended (λ M. drain.clauses)
+  pub run-ticks : Settles run-ticks.ended (λ M. run-ticks.clauses)
+  pub word : Settles word.ended (λ M. word.clauses)
+  pub render : Settles render.ended (λ M. render.clauses)
+  pub clocks-no : Settles clocks-no.ended (λ M. clocks-no.clauses)
+  pub clocks-of : Settles clocks-of.ended (λ M. clocks-of.clauses)
+  pub in-range : Settles in-range.ended (λ M. in-range.clauses)
+  pub accepted : Settles accepted.ended (λ M. accepted.clauses)
+  pub refused : Settles refused.ended (λ M. refused.clauses)
+  pub with-voice : Settles with-voice.ended (λ M. with-voice.clauses)

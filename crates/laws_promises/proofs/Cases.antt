@@ -1,0 +1,65 @@
+-- Worked histories, computed from the definitions: the demand is not empty, and 01's figures come out. Assumes nothing.
+use mathlib.Core.Bool.{true}
+use mathlib.Core.List.{List, [], _∷_, _++_, map}
+use mathlib.Core.Path.{_≡_, refl}
+use Prim.Native.Nat.{ℕ}
+use lib.IntN.{negsuc}
+use lib.ListN.{length}
+use Rattle.tables.specs.Envelope.{shapeEntry, entryAt}
+use Rattle.tone.specs.Tone.{toneSet, toneTick}
+use Rattle.noise.specs.Noise.{registerStep, outputBy, noiseTick}
+use Rattle.envelope.specs.Envelope.{nextPosition, envelopeTick, placeOf, envelopeLevel}
+use Rattle.generators.specs.Generators.{tick, edgesOf, toneAt, putTone, tonesSet}
+use Rattle.generators.specs.Reset.{seeded, powerOnEdges, generatorsReset}
+use Rattle.gates.specs.Gates.{gatesFrom, gateOf}
+use Rattle.channel.specs.Channel.{heard, sounded}
+use Rattle.channel.specs.Levels.{levelUsed, gatedLevel, loudnessOf}
+use Rattle.mixer.specs.Mix.{mixed}
+use Rattle.registers.specs.Registers.{pairAt, tonePeriodSet, noisePeriodSet, gatesSet, envelopePeriodSet, shapeSet, voiceSet, masked, applyRegister}
+use Rattle.registers.specs.Reset.{voiceReset}
+use Rattle.queue.specs.Waiting.{writesFrom, waiting, due, late, applyAll, push, drain, queueIn}
+use Rattle.clocking.specs.Ticks.{ticking, ticked}
+use Rattle.clocking.specs.Word.{drained, ranOf, mixedOf, wordOf, afterWords, ticksOf}
+use Rattle.chip.specs.Clocks.{clocksNo}
+use Rattle.chip.specs.Range.{clocksIn, bytesIn, toneIn, allOrNone, noiseIn, envelopeIn, generatorsIn, gatesIn, voiceIn, coreIn, chipIn}
+use Rattle.calls_making.specs.Making.{madeOf, fresh, withClocks, resetOf, resetCall}
+use Rattle.calls_ports.specs.Ports.{writePort}
+use Rattle.calls_cycles.specs.Cycles.{setCpuCycle, syncSampleCycle, flushPendingWrites}
+use Rattle.calls_words.specs.Blocks.{blockNumber, blocked, sampled}
+use Rattle.laws_promises.specs.History.{Call, write-port, set-cpu-cycle, sync-sample-cycle, flush-pending-writes, reset, compute-next-sample, block, answers, after, Entry, entries, blank, enters, entered, ledger}
+use Rattle.laws_promises.specs.Demand.{positionOf, reach, Holds}
+use Rattle.laws_promises.proofs.Demand.{demand-3}
+
+abbrev words : List Call → List Entry
+words calls = ledger calls fresh blank .words
+
+-- each word's end, and how many writes it applies
+abbrev served : List Call → List (ℕ × ℕ)
+served calls = map (λ (w : Entry). (w .end, length (w .applied))) (words calls)
+
+abbrev three-words : List Call
+three-words = block (0 ∷ 0 ∷ 0 ∷ []) ∷ []
+
+abbrev four-words : List Call
+four-words = block (0 ∷ 0 ∷ 0 ∷ 0 ∷ []) ∷ []
+
+-- 01: "Stamps 500 then 100, default clocks: both applied by the third word (end 543)."
+abbrev late-then-early : List Call
+late-then-early = set-cpu-cycle 500 ∷ write-port 2 1 ∷ set-cpu-cycle 100 ∷ write-port 2 2 ∷ []
+
+-- the demand at this history
+pub held : Holds 2000000 44100 (after late-then-early (withClocks 2000000 44100 .chip)) (ledger late-then-early (withClocks 2000000 44100 .chip) blank)
+unfolding clocksNo
+held = demand-3 2000000 44100 refl late-then-early
+
+pub cases : (map (λ (w : Entry). w .ticks) (words four-words) ≡ 6 ∷ 6 ∷ 6 ∷ 5 ∷ []) × (after four-words fresh .core .accumulator ≡ 14300)
+    × (served (late-then-early ++ three-words) ≡ (181, 0) ∷ (362, 0) ∷ (543, 2) ∷ [])
+    × (served (late-then-early ++ compute-next-sample ∷ sync-sample-cycle 0 ∷ compute-next-sample ∷ sync-sample-cycle 400 ∷ compute-next-sample ∷ [])
+    ≡ (181, 0) ∷ (181, 0) ∷ (581, 2) ∷ [])
+    × (reach 1 (waiting (after late-then-early fresh .queue)) ≡ 500)
+    × (length (ledger (late-then-early ++ flush-pending-writes ∷ []) fresh blank .applied) ≡ 2)
+    × (ledger (late-then-early ++ reset ∷ compute-next-sample ∷ []) fresh blank .accepted ≡ [])
+    × (ledger (write-port 0 13 ∷ write-port 2 8 ∷ three-words) fresh blank .restarted ≡ true)
+    × (positionOf (after (write-port 0 13 ∷ write-port 2 8 ∷ four-words) fresh) ≡ negsuc 40)
+unfolding shapeEntry entryAt toneSet toneTick registerStep outputBy noiseTick nextPosition envelopeTick placeOf envelopeLevel tick edgesOf toneAt putTone tonesSet seeded powerOnEdges generatorsReset gatesFrom gateOf heard sounded levelUsed gatedLevel loudnessOf mixed pairAt tonePeriodSet noisePeriodSet gatesSet envelopePeriodSet shapeSet voiceSet masked applyRegister voiceReset writesFrom waiting due late applyAll push drain queueIn ticking ticked drained ranOf mixedOf wordOf afterWords ticksOf clocksNo clocksIn bytesIn toneIn allOrNone noiseIn envelopeIn generatorsIn gatesIn voiceIn coreIn chipIn madeOf fresh resetOf resetCall writePort setCpuCycle syncSampleCycle flushPendingWrites blockNumber blocked sampled answers after entries enters entered ledger reach
+cases = (refl, refl, refl, refl, refl, refl, refl, refl, refl)

@@ -1,0 +1,114 @@
+-- Demand 3: for any calls on a chip with accepted clocks. Assumes nothing.
+use mathlib.Core.Bool.{false}
+use mathlib.Core.List.{List, [], _∷_, _++_, append-assoc, append-nil}
+use mathlib.Core.Path.{_≡_, refl, sym, ap, _∙_}
+use Prim.Native.Nat.{ℕ, zero, suc, _<_}
+use native.Mathlib.Omega.{arith}
+use borrow.Author.Tests.{ne-eqb}
+use lib.ListN.{length}
+use Rattle.refusals.specs.Numbers.{accepted}
+use Rattle.laws.specs.All.{All}
+use Rattle.laws.proofs.Tests.{on-eq}
+use Rattle.queue.specs.declared.Write.{Write}
+use Rattle.queue.specs.Waiting.{waiting}
+use Rattle.queue.proofs.Ring.{length-waiting}
+use Rattle.clocking.specs.declared.Chip.{Chip}
+use Rattle.clocking.specs.Word.{afterOne, afterWords}
+use Rattle.chip.specs.Clocks.{clocksNo, clocksOf}
+use Rattle.chip.proofs.InRange.{InRange, passes}
+use Rattle.answers.specs.declared.Answered.{Answered}
+use Rattle.calls_making.specs.Making.{madeOf, withClocks}
+use Rattle.calls_cycles.specs.Cycles.{pendingWriteCount}
+use Rattle.laws_promises.specs.History.{Call, answers, after, Entry, entries, Ledger, blank, entered, ledger}
+use Rattle.laws_promises.specs.Demand.{Plain, Served, Holds, FromZero, Demand}
+use Rattle.laws_promises.proofs.Sounds.{reset-sounds}
+use Rattle.laws_promises.proofs.Words.{worded}
+use Rattle.laws_promises.proofs.Deeds.{Deed, rests, flushes, begins, plays, deed}
+use Rattle.laws_promises.proofs.Numbered.{numbered}
+use Rattle.laws_promises.proofs.Kept.{Keeps, in-range, calls-kept, made-kept}
+use Rattle.laws_promises.proofs.Circling.{calls-circle}
+use Rattle.laws_promises.proofs.Course.{Course, course-join, course-served}
+
+-- the words of a block
+words-course : (n : ℕ) (c : Chip) → InRange c → Course (entries n c) (waiting (c .queue)) (waiting (afterWords n c .queue))
+unfolding entries afterWords
+words-course zero c h = ([], sym (append-nil (waiting (c .queue))))
+words-course (suc n) c h =
+    let s = worded c h in
+    ([], rw append-nil (s .applied), rw (append-nil, ← s .left) (words-course n (afterOne c) (s .ok)))
+
+-- the words that calls enter, and the queue's course by them
+record Runs (first : List Write) (d : Chip) (l m : Ledger) : Type 0 where
+  ws : List Entry
+  all : m .words ≡ l .words ++ ws
+  course : Course ws first (waiting (d .queue))
+
+deed-runs : {x : Call} {c d : Chip} {l m : Ledger} → Plain x → InRange c → Deed x c d l m → Runs (waiting (c .queue)) d l m
+deed-runs {x} {c} {d} {l} {m} p h (rests s) = record { ws = []; all = s .words ∙ sym (append-nil (l .words)); course = (s .new, s .waits) }
+deed-runs p h (flushes e _ _) = absurd (p .0 e)
+deed-runs p h (begins e _ _) = absurd (p .1 e)
+deed-runs {x} {c} {d} {l} {m} p h (plays n e f) =
+    record { ws = entries n c; all = ap (λ (k : Ledger). k .words) f; course = rw e (words-course n c h) }
+
+calls-run : (calls : List Call) (c : Chip) (l : Ledger) → All Plain calls → InRange c
+    → Runs (waiting (c .queue)) (after calls c) l (ledger calls c l)
+unfolding after ledger
+calls-run [] c l p h = record { ws = []; all = sym (append-nil (l .words)); course = ([], sym (append-nil (waiting (c .queue)))) }
+calls-run (x ∷ calls) c l p h =
+    let a = deed-runs (p .0) h (deed x c l h) in
+    let b = calls-run calls (answers x c .chip) (entered x c l) (p .1) (in-range x c h) in
+    record {
+      ws = a .ws ++ b .ws;
+      all = b .all ∙ ap (λ (ws : List Entry). ws ++ b .ws) (a .all) ∙ append-assoc (l .words) (a .ws) (b .ws);
+      course = course-join (a .ws) (b .ws) _ _ _ (a .course) (b .course);
+    }
+
+-- a waiting write of any chip in range
+waiting-served : (c : Chip) → InRange c → (i : ℕ) → i < length (waiting (c .queue)) → (later : List Call) → All Plain later
+    → Served (waiting (c .queue)) i (ledger later c blank .words) (waiting (after later c .queue))
+waiting-served c h i k later p = let r = calls-run later c blank p h in rw (r .all) (course-served i k (r .course))
+
+-- a refused call
+nothing-changes : (c : Chip) (l : Ledger) (x : Call) → (answers x c .no ≡ accepted → ⊥) → (answers x c .chip ≡ c) × (entered x c l ≡ l)
+unfolding entered
+nothing-changes c l x f = (numbered x c .stays f, rw (ne-eqb (answers x c .no) accepted f))
+
+-- the waiting count
+counted : (c : Chip) → InRange c → pendingWriteCount c ≡ record { no = accepted; count = length (waiting (c .queue)) }
+unfolding pendingWriteCount
+counted c h = rw (passes h, length-waiting (c .queue))
+
+holds : {master rate : ℕ} {c : Chip} {l : Ledger} → Keeps master rate c l → (l .restarted ≡ false → FromZero c) → Holds master rate c l
+holds {master} {rate} {c} {l} k z =
+    let r = k .range in
+    let n = r .voice .generators .noise in
+    record {
+      kept = k .kept;
+      served = waiting-served c r;
+      beyond = record {
+        clocks = k .clocks;
+        never22 = λ x. numbered x c .fine (passes r);
+        refused = nothing-changes c l;
+        count = counted c r;
+        narrow = omega (arith, n .narrow);
+        agrees = k .agrees;
+        position = r .voice .generators .envelope .position;
+        restarted = z;
+        circles = λ a later. calls-circle later c blank r (λ _. a);
+      };
+    }
+
+made-is : (master rate : ℕ) → clocksNo master rate ≡ accepted → madeOf (clocksOf master rate) ≡ withClocks master rate .chip
+unfolding withClocks
+made-is master rate e = ap (λ (a : Answered). a .chip) (on-eq (clocksNo master rate) accepted _ _ _ e refl)
+
+made-circles : (master rate : ℕ) → FromZero (madeOf (clocksOf master rate))
+unfolding madeOf
+made-circles master rate = reset-sounds _ .1
+
+pub demand-3 : Demand
+demand-3 master rate e calls =
+    let m = made-kept master rate e in
+    let c = madeOf (clocksOf master rate) in
+    rw (← made-is master rate e)
+    (holds (calls-kept calls c blank m) (calls-circle calls c blank (m .range) (λ _. made-circles master rate)))

@@ -1,0 +1,88 @@
+-- A history says of each call what the call's public promise says, so nothing is modelled twice; and every making begins one of the
+-- demand's histories. Assumes nothing.
+use mathlib.Core.Bool.{Bool}
+use mathlib.Core.List.{List}
+use mathlib.Core.Path.{_≡_, refl, sym, ap, _∙_}
+use Prim.Native.Nat.{ℕ}
+use lib.ListN.{length}
+use Rattle.refusals.specs.Numbers.{accepted}
+use Rattle.laws.proofs.Tests.{on-ne}
+use Rattle.channel.specs.declared.Drum.{Drum}
+use Rattle.clocking.specs.declared.Chip.{Chip}
+use Rattle.chip.specs.Clocks.{clocksNo}
+use Rattle.answers.specs.declared.Answered.{Answered}
+use Rattle.answers.specs.Answers.{answered}
+use Rattle.calls_making.specs.Making.{fresh, withClocks, resetCall}
+use Rattle.calls_registers.specs.Stored.{dumpRegisters, loadRegisters, readRegister, writeRegister}
+use Rattle.calls_ports.specs.Ports.{readPort, writePort, writePortImmediate}
+use Rattle.calls_cycles.specs.Cycles.{cpuCycle, flushPendingWrites, pendingWriteCount, setCpuCycle, syncSampleCycle}
+use Rattle.calls_effects.specs.Effects.{getChannelOutputs, isChannelMuted, setChannelMute, setDrumSampleOverride, setTimerIrqState, triggerEnvelope}
+use Rattle.calls_words.specs.Blocks.{blocked, sampled}
+use Rattle.laws_promises.specs.History
+use Rattle.laws_promises.specs.History.{answers}
+
+-- the right sides are those of the promises
+pub record Public (c : Chip) : Type 0 where
+  pub reset : answers History.reset c ≡ resetCall c
+  pub write-register : (register value : ℕ) → answers (History.write-register register value) c ≡ writeRegister register value c
+  pub load-registers : (bytes : List ℕ) → answers (History.load-registers bytes) c ≡ loadRegisters bytes c
+  pub write-port : (port value : ℕ) → answers (History.write-port port value) c ≡ writePort port value c
+  pub write-port-immediate : (port value : ℕ) → answers (History.write-port-immediate port value) c ≡ writePortImmediate port value c
+  pub set-cpu-cycle : (cycle : ℕ) → answers (History.set-cpu-cycle cycle) c ≡ setCpuCycle cycle c
+  pub sync-sample-cycle : (cycle : ℕ) → answers (History.sync-sample-cycle cycle) c ≡ syncSampleCycle cycle c
+  pub flush-pending-writes : answers History.flush-pending-writes c ≡ flushPendingWrites c
+  pub set-timer-irq-state : (on : Bool) → answers (History.set-timer-irq-state on) c ≡ setTimerIrqState on c
+  pub inside-timer-irq : (inside : Bool) → answers (History.inside-timer-irq inside) c ≡ setTimerIrqState inside c
+  pub trigger-envelope : answers History.trigger-envelope c ≡ triggerEnvelope c
+  pub set-channel-mute : (channel : ℕ) (muted : Bool) → answers (History.set-channel-mute channel muted) c ≡ setChannelMute channel muted c
+  pub set-drum-sample-override : (channel : ℕ) (drum : Drum)
+      → answers (History.set-drum-sample-override channel drum) c ≡ setDrumSampleOverride channel drum c
+  pub compute-next-sample : answers History.compute-next-sample c ≡ answered (sampled c .answer .no) (sampled c .chip)
+  pub block : (out : List ℕ) → answers (History.block out) c ≡ answered (blocked (length out) c .answer .no) (blocked (length out) c .chip)
+  pub read-register : (register : ℕ) → answers (History.read-register register) c ≡ answered (readRegister register c .no) c
+  pub dump-registers : answers History.dump-registers c ≡ answered (dumpRegisters c .no) c
+  pub read-port : (port : ℕ) → answers (History.read-port port) c ≡ answered (readPort port c .no) c
+  pub cpu-cycle : answers History.cpu-cycle c ≡ answered (cpuCycle c .no) c
+  pub pending-write-count : answers History.pending-write-count c ≡ answered (pendingWriteCount c .no) c
+  pub is-channel-muted : (channel : ℕ) → answers (History.is-channel-muted channel) c ≡ answered (isChannelMuted channel c .no) c
+  pub get-channel-outputs : answers History.get-channel-outputs c ≡ answered (getChannelOutputs c .no) c
+
+pub public : (c : Chip) → Public c
+unfolding answers
+public c =
+    record {
+      reset = refl;
+      write-register = λ _ _. refl;
+      load-registers = λ _. refl;
+      write-port = λ _ _. refl;
+      write-port-immediate = λ _ _. refl;
+      set-cpu-cycle = λ _. refl;
+      sync-sample-cycle = λ _. refl;
+      flush-pending-writes = refl;
+      set-timer-irq-state = λ _. refl;
+      inside-timer-irq = λ _. refl;
+      trigger-envelope = refl;
+      set-channel-mute = λ _ _. refl;
+      set-drum-sample-override = λ _ _. refl;
+      compute-next-sample = refl;
+      block = λ _. refl;
+      read-register = λ _. refl;
+      dump-registers = refl;
+      read-port = λ _. refl;
+      cpu-cycle = refl;
+      pending-write-count = refl;
+      is-channel-muted = λ _. refl;
+      get-channel-outputs = refl;
+    }
+
+-- `new`, and `with_clocks` where it refuses, begin histories that are among the demand's: at the default clocks
+pub new-begins : fresh ≡ withClocks 2000000 44100 .chip
+unfolding fresh withClocks clocksNo
+new-begins = refl
+
+refused-fresh : (master rate : ℕ) → (clocksNo master rate ≡ accepted → ⊥) → withClocks master rate .chip ≡ fresh
+unfolding withClocks
+refused-fresh master rate f = ap (λ (a : Answered). a .chip) (sym (on-ne (clocksNo master rate) accepted _ _ _ f refl))
+
+pub refused-begins : (master rate : ℕ) → (clocksNo master rate ≡ accepted → ⊥) → withClocks master rate .chip ≡ withClocks 2000000 44100 .chip
+refused-begins master rate f = refused-fresh master rate f ∙ new-begins
