@@ -4,11 +4,12 @@ use mathlib.Core.Path.{_≡_, sym, _∙_}
 use borrow.Author.Tests.{not-false}
 use Rattle.refusals.specs.Numbers.{accepted}
 use Rattle.registers.specs.declared.Voice.{Voice}
-use Rattle.clocking.specs.declared.Chip.{Chip}
+use Rattle.chip.specs.declared.Chip.{Chip}
 use Rattle.chip.specs.Range.{chipIn}
 use Rattle.chip.proofs.InRange.{InRange, Laid, passed}
 use Rattle.answers.specs.declared.Answered.{Answered}
-use Rattle.answers.specs.Answers.{answered, withVoice}
+use Rattle.answers.specs.Answers.{answered}
+use Rattle.chip_parts.specs.Parts.{withVoice}
 
 -- what passes the test is in range
 pub in-range : (c : Chip) {r : Bool} → r ≡ chipIn c → Laid c → not r ≡ false → InRange c

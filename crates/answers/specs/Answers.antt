@@ -1,14 +1,11 @@
--- What a call answers, and a chip with one part changed. 01, "Numbers a call can answer". Assumes nothing.
+-- What a call answers. 01, "Numbers a call can answer". Assumes nothing.
 use Prim.Native.Nat.{ℕ}
 use mathlib.Core.Bool.{cond}
 use Rattle.answers.specs.declared.Answered.{Answered}
 use Rattle.answers.specs.declared.Byte.{Byte}
-use Rattle.clocking.specs.declared.Chip.{Chip}
-use Rattle.clocking.specs.declared.Core.{Core}
-use Rattle.queue.specs.declared.Queue.{Queue}
+use Rattle.chip.specs.declared.Chip.{Chip}
 use Rattle.chip.specs.Range.{chipIn}
 use Rattle.refusals.specs.Numbers.{accepted, outOfRange}
-use Rattle.registers.specs.declared.Voice.{Voice}
 
 -- the chip after a call, and the call's number
 abbrev pub answered : ℕ → Chip → Answered
@@ -24,30 +21,3 @@ does step c = checked c (answered accepted (step c))
 
 abbrev pub byteAnswer : ℕ → ℕ → Byte
 byteAnswer number value = record { no = number; value = value }
-
--- a stored byte, and a change of the voice
-abbrev pub voiceOf : Chip → Voice
-voiceOf c = c .core .voice
-
--- A chip with one part changed.
-abbrev pub withCore : Core → Chip → Chip
-withCore core c = record { core = core; queue = c .queue }
-
-abbrev pub withQueue : Queue → Chip → Chip
-withQueue q c = record { core = c .core; queue = q }
-
-abbrev pub withVoice : Voice → Chip → Chip
-withVoice v c =
-    let k = c .core in
-    withCore (record {
-      clocks = k .clocks;
-      voice = v;
-      channels = k .channels;
-      selected = k .selected;
-      accumulator = k .accumulator;
-      stamp = k .stamp;
-      start = k .start;
-    }) c
-
-abbrev pub onVoice : (Voice → Voice) → Chip → Chip
-onVoice step c = withVoice (step (voiceOf c)) c

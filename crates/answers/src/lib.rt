@@ -1,9 +1,8 @@
-// What the calls of the chip answer, and what they share. 01, "Numbers a call can answer".
+// What the calls of the chip answer. 01, "Numbers a call can answer".
 ghost use mathlib.Core.Path.{_≡_};
 ghost use Rattle.refusals.specs.Numbers.{accepted, outOfRange};
-ghost use Rattle.answers.specs.Answers.{answered, withVoice};
-use clocking::Chip;
-use registers::Voice;
+ghost use Rattle.answers.specs.Answers.{answered};
+use chip::Chip;
 
 // The chip after a call, and the call's number.
 pub struct Answered {
@@ -81,14 +80,4 @@ pub fn refused(chip: Chip) -> Answered
         chip,
         no: refusals::OUT_OF_RANGE,
     }
-}
-
-pub fn with_voice(chip: Chip, voice: Voice) -> Chip
-    ensures { λ r. ⌜ r ≡ withVoice voice chip ⌝ }
-{
-    let mut core = chip.core;
-    core.voice = voice;
-    let mut after = chip;
-    after.core = core;
-    after
 }

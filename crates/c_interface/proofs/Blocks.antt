@@ -5,7 +5,7 @@ use Prim.Native.Nat.{ℕ, suc, _-_, _≤_, _<_}
 use native.Mathlib.Omega.{arith}
 use lib.ListN.{length}
 use Rattle.answers.specs.declared.Blocked.{Blocked}
-use Rattle.clocking.specs.declared.Chip.{Chip}
+use Rattle.chip.specs.declared.Chip.{Chip}
 use Rattle.calls_words.specs.Blocks.{blocked, blockBuffer}
 use Rattle.c_interface.specs.Exports.{blockTicks, blockWords, repeatTicks, repeatWords}
 

@@ -2,7 +2,7 @@
 use mathlib.Core.Path.{_≡_, refl, ap, sym, _∙_}
 use Prim.Native.Nat.{ℕ, suc, _+_, _-_, _≤_, _<_}
 use native.Mathlib.Omega.{arith}
-use Rattle.clocking.specs.declared.Chip.{Chip}
+use Rattle.chip.specs.declared.Chip.{Chip}
 use Rattle.c_interface.specs.Exports.{queuedChip, writeQueued}
 
 pub record Queueing (cycles : ℕ) (c₀ c : Chip) (place : ℕ) : Type 0 where

@@ -2,7 +2,7 @@
 use mathlib.Core.List.{List}
 use Prim.Native.Nat.{_%_, _*_, _+_, suc, zero, ℕ}
 use lib.ListN.{length}
-use Rattle.clocking.specs.declared.Chip.{Chip}
+use Rattle.chip.specs.declared.Chip.{Chip}
 use Rattle.calls_cycles.specs.Cycles.{setCpuCycle}
 use Rattle.calls_making.specs.Making.{withClocks}
 use Rattle.calls_ports.specs.Ports.{writePort}

@@ -2,7 +2,7 @@
 ghost use mathlib.Core.Path.{_≡_};
 ghost use lib.ListN.{length};
 ghost use Rattle.c_interface.specs.Exports.{blockTicks, blockWords, loadedChip, playedTicks, playedWords, queuedChip, repeatTicks, repeatWords, writeQueued};
-use clocking::Chip;
+use chip::Chip;
 
 // One block. Answers its ticks.
 #[no_mangle]

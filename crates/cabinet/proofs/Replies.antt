@@ -21,8 +21,8 @@ use Rattle.answers.proofs.Played as played′
 use Rattle.answers.proofs.Played.Laws as played-laws
 use Rattle.answers.proofs.Sample as sample′
 use Rattle.answers.proofs.Sample.Laws as sample-laws
-use Rattle.clocking.proofs.Chip as chip′
-use Rattle.clocking.proofs.Chip.Laws as chip-laws
+use Rattle.chip.proofs.Chip as chip′
+use Rattle.chip.proofs.Chip.Laws as chip-laws
 use Rattle.laws.proofs.Flat.{Lent, Flat, Reply, structf, u8f}
 use Rattle.channel.proofs.Drum as drum′
 use Rattle.channel.proofs.Drum.Laws as drum-laws

@@ -17,7 +17,7 @@ use answers::Outputs;
 use answers::Played;
 use answers::Sample;
 use channel::Drum;
-use clocking::Chip;
+use chip::Chip;
 
 pub fn reset(chip: &mut Chip) -> u8
     ensures { λ r. ⌜ (r ≡ resetCall (now (chip .entry)) .no) × (now (chip .exit) ≡ resetCall (now (chip .entry)) .chip) ⌝ }

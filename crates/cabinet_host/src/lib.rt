@@ -18,7 +18,7 @@ use answers::Flag;
 use answers::Outputs;
 use answers::Sampled;
 use channel::Drum;
-use clocking::Chip;
+use chip::Chip;
 
 pub fn reset(mut chip: Chip) -> Answered
     ensures { λ r. ⌜ r ≡ resetCall chip ⌝ }

@@ -35,4 +35,4 @@ pub use calls_registers::write_register;
 pub use calls_words::block;
 pub use calls_words::compute_next_sample;
 pub use channel::Drum;
-pub use clocking::Chip;
+pub use chip::Chip;

@@ -1,27 +1,16 @@
 -- Stamps, the next word's start, and the queue. 01, "Registers and ports". Assumes nothing.
 use Prim.Native.Nat.{ℕ}
 use mathlib.Core.Bool.{cond}
-use Rattle.answers.specs.Answers.{does, onVoice, withCore, withQueue}
+use Rattle.answers.specs.Answers.{does}
+use Rattle.chip_parts.specs.Parts.{onVoice, withCore, withQueue}
 use Rattle.answers.specs.declared.Answered.{Answered}
 use Rattle.answers.specs.declared.Count.{Count}
 use Rattle.answers.specs.declared.Cycle.{Cycle}
-use Rattle.clocking.specs.declared.Chip.{Chip}
-use Rattle.queue.specs.Waiting.{applyAll, emptied, waiting}
+use Rattle.chip.specs.declared.Chip.{Chip}
+use Rattle.queue_flush.specs.Applied.{applyAll}
+use Rattle.queue.specs.Waiting.{emptied, waiting}
 use Rattle.chip.specs.Range.{chipIn}
 use Rattle.refusals.specs.Numbers.{accepted, outOfRange}
-
-abbrev pub withTimes : ℕ → ℕ → Chip → Chip
-withTimes stamp start c =
-    let k = c .core in
-    withCore (record {
-      clocks = k .clocks;
-      voice = k .voice;
-      channels = k .channels;
-      selected = k .selected;
-      accumulator = k .accumulator;
-      stamp = stamp;
-      start = start;
-    }) c
 
 -- Setting the CPU cycle sets the stamp of later writes; syncing sets the stamp and the next word's start.
 unfoldable pub setCpuCycle : ℕ → Chip → Answered

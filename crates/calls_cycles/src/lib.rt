@@ -4,7 +4,7 @@ ghost use Rattle.calls_cycles.specs.Cycles.{cpuCycle, flushPendingWrites
 use answers::Answered;
 use answers::Count;
 use answers::Cycle;
-use clocking::Chip;
+use chip::Chip;
 
 // The stamp of later writes.
 pub fn set_cpu_cycle(chip: Chip, cycle: u64) -> Answered
@@ -56,7 +56,7 @@ pub fn flush_pending_writes(chip: Chip) -> Answered
     if !chip::in_range(chip) {
         return answers::refused(chip);
     }
-    let voice = chip.queue.flush(chip.core.voice);
+    let voice = queue_flush::flush(chip.queue, chip.core.voice);
     let queue = chip.queue.emptied();
     let mut core = chip.core;
     core.voice = voice;

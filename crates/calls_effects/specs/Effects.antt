@@ -2,11 +2,12 @@
 use Prim.Native.Nat.{ℕ}
 use lib.Dec.{leb}
 use mathlib.Core.Bool.{Bool, cond, false, true}
-use Rattle.answers.specs.Answers.{answered, checked, does, onVoice}
+use Rattle.answers.specs.Answers.{answered, checked, does}
+use Rattle.chip_parts.specs.Parts.{onVoice}
 use Rattle.answers.specs.declared.Answered.{Answered}
 use Rattle.answers.specs.declared.Flag.{Flag}
 use Rattle.answers.specs.declared.Outputs.{Outputs}
-use Rattle.clocking.specs.declared.Chip.{Chip}
+use Rattle.chip.specs.declared.Chip.{Chip}
 use Rattle.envelope.specs.Envelope.{restarted, start}
 use Rattle.generators.specs.Generators.{tonesReleased}
 use Rattle.channel.specs.Channel.{float}
@@ -34,22 +35,6 @@ triggered v = withEnvelope (restarted (v .generators .envelope)) v
 
 unfoldable pub triggerEnvelope : Chip → Answered
 triggerEnvelope c = does (onVoice triggered) c
-
-abbrev pub withChannels : Channels → Chip → Chip
-withChannels channels c =
-    let k = c .core in
-    record {
-      core = record {
-        clocks = k .clocks;
-        voice = k .voice;
-        channels = channels;
-        selected = k .selected;
-        accumulator = k .accumulator;
-        stamp = k .stamp;
-        start = k .start;
-      };
-      queue = c .queue;
-    }
 
 -- mute or drum for channel 3 or above: nothing changes
 abbrev pub forChannel : ℕ → Channels → Chip → Answered

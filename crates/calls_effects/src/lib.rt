@@ -1,12 +1,12 @@
 // The IRQ flag, the envelope's trigger, mutes, drums and last outputs. 01, "Registers and ports" and "One tick, one word".
 ghost use mathlib.Core.Path.{_≡_};
-ghost use Rattle.calls_effects.specs.Effects.{getChannelOutputs, irqSet, isChannelMuted, setChannelMute, setDrumSampleOverride, setTimerIrqState, triggerEnvelope, withChannels};
+ghost use Rattle.calls_effects.specs.Effects.{getChannelOutputs, irqSet, isChannelMuted, setChannelMute, setDrumSampleOverride, setTimerIrqState, triggerEnvelope};
+ghost use Rattle.chip_parts.specs.Parts.{withChannels};
 use answers::Answered;
 use answers::Flag;
 use answers::Outputs;
 use channel::Drum;
-use clocking::Chip;
-use mixer::Channels;
+use chip::Chip;
 use registers::Voice;
 
 // Setting the flag off releases the pending flips.
@@ -17,7 +17,7 @@ pub fn set_timer_irq_state(chip: Chip, on: bool) -> Answered
         return answers::refused(chip);
     }
     let voice = with_irq(chip.core.voice, on);
-    answers::accepted(answers::with_voice(chip, voice))
+    answers::accepted(chip_parts::with_voice(chip, voice))
 }
 
 // The crate's other name for it.
@@ -39,7 +39,7 @@ pub fn trigger_envelope(chip: Chip) -> Answered
     let envelope = generators.envelope.trigger();
     generators.envelope = envelope;
     voice.generators = generators;
-    answers::accepted(answers::with_voice(chip, voice))
+    answers::accepted(chip_parts::with_voice(chip, voice))
 }
 
 pub fn set_channel_mute(chip: Chip, channel: usize, muted: bool) -> Answered
@@ -55,7 +55,7 @@ pub fn set_channel_mute(chip: Chip, channel: usize, muted: bool) -> Answered
         };
     }
     let channels = chip.core.channels.set_mute(channel, muted);
-    answers::accepted(with_channels(chip, channels))
+    answers::accepted(chip_parts::with_channels(chip, channels))
 }
 
 pub fn is_channel_muted(chip: Chip, channel: usize) -> Flag
@@ -86,7 +86,7 @@ pub fn set_drum_sample_override(chip: Chip, channel: usize, drum: Drum) -> Answe
         };
     }
     let channels = chip.core.channels.set_drum_override(channel, drum);
-    answers::accepted(with_channels(chip, channels))
+    answers::accepted(chip_parts::with_channels(chip, channels))
 }
 
 pub fn get_channel_outputs(chip: Chip) -> Outputs
@@ -121,14 +121,4 @@ fn with_irq(voice: Voice, on: bool) -> Voice
     next.generators = generators;
     next.irq = false;
     next
-}
-
-fn with_channels(chip: Chip, channels: Channels) -> Chip
-    ensures { λ r. ⌜ r ≡ withChannels channels chip ⌝ }
-{
-    let mut core = chip.core;
-    core.channels = channels;
-    let mut after = chip;
-    after.core = core;
-    after
 }

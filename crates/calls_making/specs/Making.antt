@@ -4,34 +4,27 @@ use lib.Dec.{eqb}
 use mathlib.Core.Bool.{cond}
 use Rattle.answers.specs.Answers.{answered, does}
 use Rattle.answers.specs.declared.Answered.{Answered}
-use Rattle.clocking.specs.declared.Chip.{Chip}
-use Rattle.clocking.specs.declared.Clocks.{Clocks}
-use Rattle.envelope.specs.Envelope.{start}
+use Rattle.chip.specs.declared.Chip.{Chip}
+use Rattle.chip_parts.specs.Parts.{atStart}
+use Rattle.chip.specs.declared.Clocks.{Clocks}
 use Rattle.mixer.specs.Mix.{allQuiet, channelsReset}
-use Rattle.queue.specs.Waiting.{empty}
 use Rattle.chip.specs.Clocks.{clocksNo, clocksOf}
 use Rattle.refusals.specs.Numbers.{accepted}
 use Rattle.registers.specs.Reset.{voiceNew, voiceReset}
 
 -- A new chip: power-on is the reset of a blank.
 unfoldable pub madeOf : Clocks → Chip
-madeOf clocks =
-    record {
-      core = record {
-        clocks = clocks;
-        voice = voiceNew;
-        channels = allQuiet;
-        selected = 0;
-        accumulator = 0;
-        stamp = 0;
-        start = 0;
-      };
-      queue = empty;
-    }
+madeOf clocks = atStart clocks voiceNew allQuiet
 
 -- The default clocks are 2,000,000 and 44,100.
+abbrev pub defaultMaster : ℕ
+defaultMaster = 2000000
+
+abbrev pub defaultRate : ℕ
+defaultRate = 44100
+
 unfoldable pub fresh : Chip
-fresh = madeOf (clocksOf 2000000 44100)
+fresh = madeOf (clocksOf defaultMaster defaultRate)
 
 -- Refused clocks give a fresh default chip.
 unfoldable pub withClocks : ℕ → ℕ → Answered
@@ -42,19 +35,7 @@ withClocks master rate =
 -- Reset: registers, generators and channels as reset; selection, accumulator, stamp and the next word's start to 0; queue empty.
 -- It keeps noise period, envelope period, mutes and each channel's last amplitude.
 unfoldable pub resetOf : Chip → Chip
-resetOf c =
-    record {
-      core = record {
-        clocks = c .core .clocks;
-        voice = voiceReset (c .core .voice);
-        channels = channelsReset (c .core .channels);
-        selected = 0;
-        accumulator = 0;
-        stamp = 0;
-        start = 0;
-      };
-      queue = empty;
-    }
+resetOf c = atStart (c .core .clocks) (voiceReset (c .core .voice)) (channelsReset (c .core .channels))
 
 unfoldable pub resetCall : Chip → Answered
 resetCall c = does resetOf c

@@ -2,11 +2,9 @@
 ghost use mathlib.Core.Path.{_≡_};
 ghost use Rattle.calls_making.specs.Making.{fresh, madeOf, resetCall, withClocks};
 use answers::Answered;
-use clocking::Chip;
-use clocking::Clocks;
-use clocking::Core;
+use chip::Chip;
+use chip::Clocks;
 use mixer::Channels;
-use queue::Queue;
 use registers::Voice;
 
 pub const DEFAULT_MASTER_CLOCK: u32 = 2_000_000;
@@ -41,33 +39,11 @@ pub fn reset(chip: Chip) -> Answered
     let clocks = chip.core.clocks;
     let voice = chip.core.voice.reset();
     let channels = chip.core.channels.reset();
-    let queue = Queue::new();
-    let core = Core {
-        clocks,
-        voice,
-        channels,
-        selected: 0,
-        accumulator: 0,
-        stamp: 0,
-        start: 0,
-    };
-    answers::accepted(Chip { core, queue })
+    answers::accepted(chip_parts::at_start(clocks, voice, channels))
 }
 
 fn made(clocks: Clocks) -> Chip
     ensures { λ r. ⌜ r ≡ madeOf clocks ⌝ }
 {
-    let voice = Voice::new();
-    let channels = Channels::new();
-    let queue = Queue::new();
-    let core = Core {
-        clocks,
-        voice,
-        channels,
-        selected: 0,
-        accumulator: 0,
-        stamp: 0,
-        start: 0,
-    };
-    Chip { core, queue }
+    chip_parts::at_start(clocks, Voice::new(), Channels::new())
 }

@@ -2,10 +2,11 @@
 use Prim.Native.Nat.{_%_, _/_, ℕ}
 use lib.Dec.{eqb, ltb}
 use mathlib.Core.Bool.{cond}
-use Rattle.answers.specs.Answers.{answered, byteAnswer, checked, onVoice, voiceOf, withCore, withQueue}
+use Rattle.answers.specs.Answers.{answered, byteAnswer, checked}
+use Rattle.chip_parts.specs.Parts.{onVoice, voiceOf, withCore, withQueue}
 use Rattle.answers.specs.declared.Answered.{Answered}
 use Rattle.answers.specs.declared.Byte.{Byte}
-use Rattle.clocking.specs.declared.Chip.{Chip}
+use Rattle.chip.specs.declared.Chip.{Chip}
 use Rattle.envelope.specs.Envelope.{start}
 use Rattle.queue.specs.Waiting.{push}
 use Rattle.queue.specs.declared.Pushed.{Pushed}
@@ -13,19 +14,6 @@ use Rattle.queue.specs.declared.Write.{Write}
 use Rattle.chip.specs.Range.{chipIn}
 use Rattle.refusals.specs.Numbers.{accepted, outOfRange}
 use Rattle.registers.specs.Registers.{applyRegister, byteAt}
-
-abbrev pub withSelection : ℕ → Chip → Chip
-withSelection selected c =
-    let k = c .core in
-    withCore (record {
-      clocks = k .clocks;
-      voice = k .voice;
-      channels = k .channels;
-      selected = selected;
-      accumulator = k .accumulator;
-      stamp = k .stamp;
-      start = k .start;
-    }) c
 
 -- "the write with the current stamp and selected number", 14 and 15 included
 abbrev pub stamped : ℕ → Chip → Write

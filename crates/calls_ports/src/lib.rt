@@ -1,9 +1,10 @@
 // The ports. 01, "Registers and ports".
 ghost use mathlib.Core.Path.{_≡_};
-ghost use Rattle.calls_ports.specs.Ports.{readPort, withSelection, writePort, writePortImmediate};
+ghost use Rattle.calls_ports.specs.Ports.{readPort, writePort, writePortImmediate};
+ghost use Rattle.chip_parts.specs.Parts.{withSelection};
 use answers::Answered;
 use answers::Byte;
-use clocking::Chip;
+use chip::Chip;
 use queue::Write;
 
 // Port bit 1 clear selects at once; set, it queues the write.
@@ -41,7 +42,7 @@ pub fn write_port_immediate(chip: Chip, port: u8, value: u8) -> Answered
         return answers::accepted(with_selection(chip, value % 16));
     }
     let voice = chip.core.voice.apply_register(chip.core.selected, value);
-    answers::accepted(answers::with_voice(chip, voice))
+    answers::accepted(chip_parts::with_voice(chip, voice))
 }
 
 pub fn read_port(chip: Chip, port: u8) -> Byte

@@ -4,11 +4,12 @@ use lib.Dec.{ltb}
 use lib.ListN.{replicate}
 use mathlib.Core.Bool.{cond}
 use mathlib.Core.List.{List, [], _∷_}
-use Rattle.answers.specs.Answers.{byteAnswer, does, onVoice, voiceOf}
+use Rattle.answers.specs.Answers.{byteAnswer, does}
+use Rattle.chip_parts.specs.Parts.{onVoice, voiceOf}
 use Rattle.answers.specs.declared.Answered.{Answered}
 use Rattle.answers.specs.declared.Byte.{Byte}
 use Rattle.answers.specs.declared.Bytes.{Bytes}
-use Rattle.clocking.specs.declared.Chip.{Chip}
+use Rattle.chip.specs.declared.Chip.{Chip}
 use Rattle.chip.specs.Range.{chipIn}
 use Rattle.refusals.specs.Numbers.{accepted, outOfRange}
 use Rattle.registers.specs.Registers.{applyRegister, byteAt, loaded}

@@ -4,7 +4,7 @@ ghost use Rattle.calls_registers.specs.Stored.{dumpRegisters, loadRegist
 use answers::Answered;
 use answers::Byte;
 use answers::Bytes;
-use clocking::Chip;
+use chip::Chip;
 
 pub fn write_register(chip: Chip, register: u8, value: u8) -> Answered
     ensures { λ r. ⌜ r ≡ writeRegister register value chip ⌝ }
@@ -13,7 +13,7 @@ pub fn write_register(chip: Chip, register: u8, value: u8) -> Answered
         return answers::refused(chip);
     }
     let voice = chip.core.voice.apply_register(register, value);
-    answers::accepted(answers::with_voice(chip, voice))
+    answers::accepted(chip_parts::with_voice(chip, voice))
 }
 
 pub fn read_register(chip: Chip, register: u8) -> Byte
@@ -47,7 +47,7 @@ pub fn load_registers(chip: Chip, bytes: [u8; 16]) -> Answered
         return answers::refused(chip);
     }
     let voice = chip.core.voice.load_registers(bytes);
-    answers::accepted(answers::with_voice(chip, voice))
+    answers::accepted(chip_parts::with_voice(chip, voice))
 }
 
 pub fn dump_registers(chip: Chip) -> Bytes

@@ -6,8 +6,8 @@ use mathlib.Core.Bool.{cond}
 use mathlib.Core.List.{List, [], _∷_}
 use Rattle.answers.specs.declared.Blocked.{Blocked}
 use Rattle.answers.specs.declared.Sampled.{Sampled}
-use Rattle.clocking.specs.Word.{afterWords, ticksOf, wordsOf}
-use Rattle.clocking.specs.declared.Chip.{Chip}
+use Rattle.clocking_block.specs.Block.{afterWords, ticksOf, wordsOf}
+use Rattle.chip.specs.declared.Chip.{Chip}
 use Rattle.chip.specs.Range.{chipIn}
 use Rattle.refusals.specs.Numbers.{accepted, blockTooLate, blockTooLong, outOfRange}
 

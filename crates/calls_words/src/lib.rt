@@ -7,7 +7,7 @@ use answers::Blocked;
 use answers::Played;
 use answers::Sample;
 use answers::Sampled;
-use clocking::Chip;
+use chip::Chip;
 
 pub const LONGEST_BLOCK: usize = 65_536;
 
@@ -24,7 +24,7 @@ pub fn block(chip: Chip, out: &mut [u16]) -> Blocked
     if no != refusals::ACCEPTED {
         return refused(chip, no);
     }
-    let rendered = clocking::render(chip, out);
+    let rendered = clocking_block::render(chip, out);
     let after = rendered.chip;
     let answer = Played {
         no: refusals::ACCEPTED,

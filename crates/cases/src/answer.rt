@@ -1,6 +1,6 @@
 // What a record in hand answers: the number of a call that only reads.
 use crate::say;
-use clocking::Chip;
+use chip::Chip;
 use generators::Generators;
 use registers::Voice;
 
@@ -10,7 +10,7 @@ pub fn of(chip: Chip) {
 }
 
 pub fn of_voice(voice: Voice) {
-    of(answers::with_voice(calls_making::new(), voice));
+    of(chip_parts::with_voice(calls_making::new(), voice));
 }
 
 pub fn of_generators(generators: Generators) {

@@ -1,7 +1,7 @@
 // Blocks at the longest length and past it, and words about cycle 2^64 - 1. 01, "Numbers a call can answer".
 use crate::say;
 use crate::steps;
-use clocking::Chip;
+use chip::Chip;
 
 pub fn show() {
     longest();

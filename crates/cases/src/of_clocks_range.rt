@@ -1,9 +1,9 @@
 // Records whose clocks or accumulator are just inside and just outside. 01, "What changes shape": 22.
 use crate::answer;
 use crate::say;
-use clocking::Chip;
-use clocking::Clocks;
-use clocking::Core;
+use chip::Chip;
+use chip::Clocks;
+use chip::Core;
 
 pub fn show() {
     accumulators();

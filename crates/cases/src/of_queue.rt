@@ -1,7 +1,7 @@
 // The queue's limit, its room, and stamps out of order. 01, "Registers and ports" and "One tick, one word".
 use crate::say;
 use crate::steps;
-use clocking::Chip;
+use chip::Chip;
 
 pub fn show() {
     fresh();

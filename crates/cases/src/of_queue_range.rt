@@ -4,7 +4,7 @@ use crate::answer;
 use crate::of_blocks;
 use crate::of_clocks_range;
 use crate::say;
-use clocking::Chip;
+use chip::Chip;
 
 pub fn show() {
     selections();

@@ -3,7 +3,7 @@ use crate::of_queue;
 use crate::say;
 use crate::steps;
 use channel::Drum;
-use clocking::Chip;
+use chip::Chip;
 
 pub fn show() {
     fresh();

@@ -1,5 +1,5 @@
 // Chips that the cases begin with, and words that pass.
-use clocking::Chip;
+use chip::Chip;
 
 // At this rate and 2,000,000 a word is one tick.
 pub fn at_a_tick() -> Chip {

@@ -32,10 +32,9 @@ use Rattle.registers.specs.Range.{BytesInRange, VoiceInRange}
 use Rattle.queue.specs.declared.Queue.{Queue}
 use Rattle.queue.specs.Waiting.{queueIn, QueueInRange}
 use Rattle.queue.proofs.Range.{queue-passed, queue-passes}
-use Rattle.clocking.specs.declared.Chip.{Chip}
-use Rattle.clocking.specs.Word.{CoreInRange}
+use Rattle.chip.specs.declared.Chip.{Chip}
+use Rattle.chip.specs.Range.{CoreInRange, clocksIn, bytesIn, toneIn, allOrNone, noiseIn, envelopeIn, generatorsIn, gatesIn, voiceIn, coreIn, chipIn}
 use Rattle.chip.specs.Clocks.{clocksNo}
-use Rattle.chip.specs.Range.{clocksIn, bytesIn, toneIn, allOrNone, noiseIn, envelopeIn, generatorsIn, gatesIn, voiceIn, coreIn, chipIn}
 use Rattle.chip.proofs.Verdicts.{Accepted, accepts}
 
 -- edges in range are within the channel's five bits

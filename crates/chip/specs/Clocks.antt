@@ -3,7 +3,7 @@ use mathlib.Core.Bool.{cond}
 use Prim.Native.Nat.{ℕ, _*_, _/_}
 use lib.Dec.{ltb, eqb}
 use Rattle.refusals.specs.Numbers.{accepted, masterTooHigh, rateZero, rateTooHigh}
-use Rattle.clocking.specs.declared.Clocks.{Clocks}
+use Rattle.chip.specs.declared.Clocks.{Clocks}
 
 -- master clock above 1,073,741,823; sample rate 0; sample rate above master / 8, rounded down; in this order
 unfoldable pub clocksNo : ℕ → ℕ → ℕ

@@ -2,7 +2,7 @@
 -- Counters and the envelope's period are of 16 bits: their type holds them to 65,535. Assumes nothing.
 use mathlib.Core.Bool.{Bool, true, false, cond}
 use mathlib.Core.List.{List, [], _∷_}
-use Prim.Native.Nat.{ℕ, _*_, _/_, _%_}
+use Prim.Native.Nat.{ℕ, _*_, _/_, _%_, _<_}
 use lib.Bits.{bitAnd}
 use lib.Dec.{leb, ltb, eqb}
 use lib.IntN.{pos}
@@ -18,10 +18,12 @@ use Rattle.generators.specs.declared.Generators.{Generators}
 use Rattle.envelope.specs.Envelope.{start}
 use Rattle.gates.specs.declared.Gates.{Gates}
 use Rattle.registers.specs.declared.Voice.{Voice}
+use Rattle.registers.specs.Range.{VoiceInRange}
 use Rattle.queue.specs.Waiting.{queueIn}
-use Rattle.clocking.specs.declared.Clocks.{Clocks}
-use Rattle.clocking.specs.declared.Core.{Core}
-use Rattle.clocking.specs.declared.Chip.{Chip}
+use Rattle.chip.specs.declared.Clocks.{Clocks}
+use Rattle.chip.specs.declared.Core.{Core}
+use Rattle.chip.specs.declared.Chip.{Chip}
+use Rattle.clocks.specs.Range.{ClocksRun}
 use Rattle.chip.specs.Clocks.{clocksNo}
 
 -- accepted clocks and their quotients, accumulator below the rate,
@@ -87,3 +89,9 @@ coreIn c = holds (clocksIn (c .clocks) (c .accumulator) ∷ voiceIn (c .voice) �
 -- each waiting write's register to 15, at most 256 waiting, the ring's place below 256.
 unfoldable pub chipIn : Chip → Bool
 chipIn c = holds (coreIn (c .core) ∷ queueIn (c .queue) ∷ [])
+
+-- What the test gives, and an inner call asks of its caller: accepted clocks and their quotients, accumulator below the rate.
+pub record CoreInRange (c : Core) : Type 0 where
+  pub run : ClocksRun (c .accumulator) (c .clocks .rate) (c .clocks .internal)
+  pub cycles : c .clocks .cycles < 4294967296
+  pub voice : VoiceInRange (c .voice)

@@ -1,18 +1,41 @@
-// The test of a handed-in chip record, refusal 22. 01, "What changes shape".
+// The chip's record, and the test of one that is handed in, refusal 22. 01, "What changes shape".
 ghost use mathlib.Core.Path.{_≡_};
 ghost use Prim.Native.Nat.{_<_};
 ghost use Rattle.refusals.specs.Numbers.{accepted};
 ghost use Rattle.chip.specs.Clocks.{clocksNo, clocksOf};
 ghost use Rattle.chip.specs.Range.{clocksIn, bytesIn, toneIn, noiseIn, allOrNone, envelopeIn, generatorsIn, gatesIn, voiceIn, coreIn, chipIn};
-use clocking::Chip;
-use clocking::Clocks;
-use clocking::Core;
 use envelope::Envelope;
 use gates::Gates;
 use generators::Generators;
+use mixer::Channels;
 use noise::Noise;
+use queue::Queue;
 use registers::Voice;
 use tone::Tone;
+
+// Accepted clocks and their quotients: the internal clock is a tick's, and `cycles` are the CPU's in a word.
+pub struct Clocks {
+    pub master: u32,
+    pub rate: u32,
+    pub internal: u32,
+    pub cycles: u64,
+}
+
+// All of the chip but its waiting writes.
+pub struct Core {
+    pub clocks: Clocks,
+    pub voice: Voice,
+    pub channels: Channels,
+    pub selected: u8,
+    pub accumulator: u32,
+    pub stamp: u64,
+    pub start: u64,
+}
+
+pub struct Chip {
+    pub core: Core,
+    pub queue: Queue,
+}
 
 pub fn clocks_no(master: u32, rate: u32) -> u8
     ensures { λ r. ⌜ r ≡ clocksNo master rate ⌝ }

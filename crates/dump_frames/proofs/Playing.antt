@@ -7,11 +7,11 @@ use lib.Dec.{eqb}
 use Rattle.laws.proofs.Tests.{on-eq, on-ne, on-no, on-yes, on-true}
 use Rattle.refusals.specs.Numbers.{lineNotOfForm, outOfRange}
 use Rattle.dump.specs.Checked.{isFrame}
-use Rattle.clocking.specs.declared.Chip.{Chip}
+use Rattle.chip.specs.declared.Chip.{Chip}
 use Rattle.chip.specs.Range.{chipIn}
 use Rattle.answers.specs.declared.Answered.{Answered}
 use Rattle.answers.specs.declared.Blocked.{Blocked}
-use Rattle.answers.specs.Answers.{withVoice}
+use Rattle.chip_parts.specs.Parts.{withVoice}
 use Rattle.calls_registers.specs.Stored.{loadRegisters}
 use Rattle.registers.specs.declared.Voice.{Voice}
 use Rattle.calls_words.specs.Blocks.{blockRefused, blocked, blockBuffer}

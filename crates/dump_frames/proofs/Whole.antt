@@ -16,8 +16,9 @@ use Rattle.dump.proofs.Accepted.{placeFrom, Laid, accepted-laid}
 use Rattle.registers.specs.declared.Voice.{Voice}
 use Rattle.registers.specs.Range.{VoiceInRange}
 use Rattle.registers.proofs.Kept.{apply-in}
-use Rattle.clocking.specs.declared.Chip.{Chip}
-use Rattle.clocking.specs.Word.{wordOf, afterOne, afterWords, wordsOf}
+use Rattle.chip.specs.declared.Chip.{Chip}
+use Rattle.clocking_word.specs.Word.{wordOf}
+use Rattle.clocking_block.specs.Block.{afterOne, afterWords, wordsOf}
 use Rattle.chip.specs.Range.{chipIn}
 use Rattle.chip.proofs.InRange.{InRange, passes, core-runs}
 use Rattle.chip.specs.Clocks.{clocksNo, clocksOf}

@@ -10,9 +10,9 @@ use Rattle.text.specs.Fields.{hexByte}
 use Rattle.dump.specs.Checked.{isFrame}
 use Rattle.registers.specs.Registers.{applyRegister}
 use Rattle.registers.specs.declared.Voice.{Voice}
-use Rattle.clocking.specs.declared.Chip.{Chip}
+use Rattle.chip.specs.declared.Chip.{Chip}
 use Rattle.chip.specs.Range.{chipIn}
-use Rattle.answers.specs.Answers.{onVoice}
+use Rattle.chip_parts.specs.Parts.{onVoice}
 use Rattle.answers.specs.declared.Blocked.{Blocked}
 use Rattle.calls_words.specs.Blocks.{blockRefused, blocked, blockBuffer}
 

@@ -4,8 +4,8 @@ use Prim.Native.Nat.{ℕ, zero, suc}
 use Rattle.text.specs.Bytes.{bytes}
 use Rattle.text.specs.Lines.{lineAt, valueAt}
 use Rattle.dump.specs.Checked.{checked}
-use Rattle.clocking.specs.Word.{afterWords, wordsOf}
-use Rattle.clocking.specs.declared.Chip.{Chip}
+use Rattle.clocking_block.specs.Block.{afterWords, wordsOf}
+use Rattle.chip.specs.declared.Chip.{Chip}
 use Rattle.calls_making.specs.Making.{withClocks}
 use Rattle.dump_frames.specs.Frame.{frameChip}
 

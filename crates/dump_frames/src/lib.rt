@@ -9,7 +9,7 @@ ghost use Rattle.calls_words.specs.Blocks.{blockRefused};
 ghost use Rattle.dump_frames.specs.Frame.{Registers, frameBuffer, framePlayed};
 use answers::Blocked;
 use answers::Played;
-use clocking::Chip;
+use chip::Chip;
 
 // The frame whose line stands at a place of the text: its registers, then as many words as the buffer has room for.
 // A refusal leaves the chip and every word of the buffer.

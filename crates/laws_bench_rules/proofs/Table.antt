@@ -16,9 +16,12 @@ use Rattle.channel.specs.Levels.{levelUsed, gatedLevel, loudnessOf}
 use Rattle.mixer.specs.Mix.{channelAt, putChannel, setMute, setDrum, mixed}
 use Rattle.registers.specs.Registers.{pairAt, tonePeriodSet, noisePeriodSet, gatesSet, envelopePeriodSet, shapeSet, voiceSet, masked, applyRegister}
 use Rattle.registers.specs.Reset.{voiceReset}
-use Rattle.queue.specs.Waiting.{writesFrom, waiting, due, applyAll, drain, queueIn}
-use Rattle.clocking.specs.Ticks.{ticking, ticked}
-use Rattle.clocking.specs.Word.{drained, ranOf, mixedOf, wordOf, afterWords, ticksOf, wordsOf}
+use Rattle.queue.specs.Waiting.{writesFrom, waiting, due, queueIn}
+use Rattle.queue_flush.specs.Applied.{applyAll}
+use Rattle.queue_drain.specs.Drain.{drain}
+use Rattle.clocking_ticks.specs.Ticks.{ticking, ticked}
+use Rattle.clocking_word.specs.Word.{drained, ranOf, mixedOf, wordOf}
+use Rattle.clocking_block.specs.Block.{afterWords, ticksOf, wordsOf}
 use Rattle.chip.specs.Clocks.{clocksNo}
 use Rattle.chip.specs.Range.{clocksIn, bytesIn, toneIn, allOrNone, noiseIn, envelopeIn, generatorsIn, gatesIn, voiceIn, coreIn, chipIn}
 use Rattle.calls_making.specs.Making.{madeOf, fresh, withClocks, resetOf, resetCall}

@@ -6,7 +6,7 @@ use Rattle.envelope.specs.declared.Envelope.{Envelope}
 use Rattle.generators.specs.declared.Generators.{Generators}
 use Rattle.generators.specs.Generators.{tick}
 use Rattle.channel.specs.declared.Drum.the-variants.{Sample}
-use Rattle.clocking.specs.declared.Chip.{Chip}
+use Rattle.chip.specs.declared.Chip.{Chip}
 use Rattle.calls_making.specs.Making.{fresh, resetCall}
 use Rattle.calls_registers.specs.Stored.{writeRegister}
 use Rattle.calls_effects.specs.Effects.{setChannelMute, setDrumSampleOverride}

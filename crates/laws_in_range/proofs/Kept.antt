@@ -14,10 +14,12 @@ use Rattle.registers.specs.declared.Voice.{Voice}
 use Rattle.registers.specs.Range.{VoiceInRange}
 use Rattle.registers.proofs.Kept.{apply-in, loaded-in, reset-in, new-in}
 use Rattle.queue.specs.Waiting.{waiting, push}
-use Rattle.queue.proofs.Laws.{empty-kept, emptied-kept, push-kept, applied-in}
-use Rattle.clocking.specs.declared.Chip.{Chip}
-use Rattle.clocking.specs.Word.{drained, ranOf, mixedOf, wordOf, afterOne, afterWords}
-use Rattle.clocking.proofs.Kept.{Stepped, stepped}
+use Rattle.queue.proofs.Laws.{empty-kept, emptied-kept, push-kept}
+use Rattle.queue_flush.proofs.Applying.{applied-in}
+use Rattle.chip.specs.declared.Chip.{Chip}
+use Rattle.clocking_word.specs.Word.{drained, ranOf, mixedOf, wordOf}
+use Rattle.clocking_block.specs.Block.{afterOne, afterWords}
+use Rattle.clocking_word.proofs.Stepping.{Stepped, stepped}
 use Rattle.chip.specs.Clocks.{clocksNo, clocksOf}
 use Rattle.chip.specs.Range.{chipIn}
 use Rattle.chip.proofs.Verdicts.{Accepted, accepts}

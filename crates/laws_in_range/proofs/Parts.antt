@@ -7,13 +7,10 @@ use Rattle.registers.specs.declared.Voice.{Voice}
 use Rattle.registers.specs.Range.{VoiceInRange}
 use Rattle.queue.specs.declared.Queue.{Queue}
 use Rattle.queue.specs.Waiting.{QueueInRange}
-use Rattle.clocking.specs.declared.Chip.{Chip}
+use Rattle.chip.specs.declared.Chip.{Chip}
 use Rattle.chip.proofs.InRange.{InRange}
 use Rattle.answers.specs.declared.Answered.{Answered}
-use Rattle.answers.specs.Answers.{withQueue, withVoice}
-use Rattle.calls_ports.specs.Ports.{withSelection}
-use Rattle.calls_cycles.specs.Cycles.{withTimes}
-use Rattle.calls_effects.specs.Effects.{withChannels}
+use Rattle.chip_parts.specs.Parts.{withQueue, withVoice, withSelection, withTimes, withChannels}
 
 module _ {c : Chip} (h : InRange c) where
   pub voice-kept : {v : Voice} → VoiceInRange v → InRange (withVoice v c)

@@ -60,12 +60,12 @@ use Rattle.registers.proofs.Voice.load_registers as voice-load-registers
 use Rattle.queue.proofs.Queue.new as queue-new
 use Rattle.queue.proofs.Queue.in_range as queue-in-range
 use Rattle.queue.proofs.Queue.push as queue-push
-use Rattle.queue.proofs.Queue.flush as queue-flush
+use Rattle.queue_flush.proofs.flush as queue-flush
 use Rattle.queue.proofs.Queue.emptied as queue-emptied
-use Rattle.queue.proofs.drain
-use Rattle.clocking.proofs.run_ticks as run-ticks
-use Rattle.clocking.proofs.word
-use Rattle.clocking.proofs.render
+use Rattle.queue_drain.proofs.drain
+use Rattle.clocking_ticks.proofs.run_ticks as run-ticks
+use Rattle.clocking_word.proofs.word
+use Rattle.clocking_block.proofs.render
 use Rattle.chip.proofs.clocks_no as clocks-no
 use Rattle.chip.proofs.clocks_of as clocks-of
 use Rattle.chip.proofs.in_range as in-range

@@ -17,9 +17,12 @@ use Rattle.channel.specs.Levels.{levelUsed, gatedLevel, loudnessOf}
 use Rattle.mixer.specs.Mix.{mixed}
 use Rattle.registers.specs.Registers.{pairAt, tonePeriodSet, noisePeriodSet, gatesSet, envelopePeriodSet, shapeSet, voiceSet, masked, applyRegister}
 use Rattle.registers.specs.Reset.{voiceReset}
-use Rattle.queue.specs.Waiting.{writesFrom, waiting, due, late, applyAll, push, drain, queueIn}
-use Rattle.clocking.specs.Ticks.{ticking, ticked}
-use Rattle.clocking.specs.Word.{drained, ranOf, mixedOf, wordOf, afterWords, ticksOf}
+use Rattle.queue.specs.Waiting.{writesFrom, waiting, due, late, push, queueIn}
+use Rattle.queue_flush.specs.Applied.{applyAll}
+use Rattle.queue_drain.specs.Drain.{drain}
+use Rattle.clocking_ticks.specs.Ticks.{ticking, ticked}
+use Rattle.clocking_word.specs.Word.{drained, ranOf, mixedOf, wordOf}
+use Rattle.clocking_block.specs.Block.{afterWords, ticksOf}
 use Rattle.chip.specs.Clocks.{clocksNo}
 use Rattle.chip.specs.Range.{clocksIn, bytesIn, toneIn, allOrNone, noiseIn, envelopeIn, generatorsIn, gatesIn, voiceIn, coreIn, chipIn}
 use Rattle.calls_making.specs.Making.{madeOf, fresh, withClocks, resetOf, resetCall}

@@ -3,7 +3,7 @@ use mathlib.Core.Bool.{false}
 use mathlib.Core.List.{List, [], _∷_}
 use mathlib.Core.Path.{_≡_}
 use Rattle.queue.specs.Waiting.{waiting}
-use Rattle.clocking.specs.declared.Chip.{Chip}
+use Rattle.chip.specs.declared.Chip.{Chip}
 use Rattle.chip.proofs.InRange.{InRange}
 use Rattle.calls_making.specs.Making.{resetOf}
 use Rattle.calls_cycles.specs.Cycles.{flushed}

@@ -14,20 +14,22 @@ use Rattle.registers.specs.declared.Voice.{Voice}
 use Rattle.registers.specs.Registers.{applyRegister}
 use Rattle.queue.specs.declared.Write.{Write}
 use Rattle.queue.specs.declared.Pushed.{Pushed}
-use Rattle.queue.specs.Waiting.{waiting, push, applyAll}
+use Rattle.queue.specs.Waiting.{waiting, push}
+use Rattle.queue_flush.specs.Applied.{applyAll}
 use Rattle.queue.proofs.Ring.{waiting-pushed}
-use Rattle.clocking.specs.declared.Chip.{Chip}
-use Rattle.clocking.specs.Word.{afterWords}
+use Rattle.chip.specs.declared.Chip.{Chip}
+use Rattle.clocking_block.specs.Block.{afterWords}
 use Rattle.chip.specs.Range.{chipIn}
 use Rattle.chip.proofs.InRange.{InRange}
 use Rattle.answers.specs.declared.Answered.{Answered}
 use Rattle.answers.specs.declared.Blocked.{Blocked}
-use Rattle.answers.specs.Answers.{answered, checked, onVoice, withVoice}
+use Rattle.answers.specs.Answers.{answered, checked}
+use Rattle.chip_parts.specs.Parts.{onVoice, withVoice, withSelection, withTimes, withChannels}
 use Rattle.calls_making.specs.Making.{resetOf, resetCall}
 use Rattle.calls_registers.specs.Stored.{dumpRegisters, loadRegisters, readRegister, writeRegister}
-use Rattle.calls_ports.specs.Ports.{withSelection, stamped, queued, readPort, writePort, writePortImmediate}
-use Rattle.calls_cycles.specs.Cycles.{cpuCycle, pendingWriteCount, withTimes, flushed, setCpuCycle, syncSampleCycle, flushPendingWrites}
-use Rattle.calls_effects.specs.Effects.{getChannelOutputs, isChannelMuted, setTimerIrqState, triggered, triggerEnvelope, withChannels, forChannel, setChannelMute, setDrumSampleOverride}
+use Rattle.calls_ports.specs.Ports.{stamped, queued, readPort, writePort, writePortImmediate}
+use Rattle.calls_cycles.specs.Cycles.{cpuCycle, pendingWriteCount, flushed, setCpuCycle, syncSampleCycle, flushPendingWrites}
+use Rattle.calls_effects.specs.Effects.{getChannelOutputs, isChannelMuted, setTimerIrqState, triggered, triggerEnvelope, forChannel, setChannelMute, setDrumSampleOverride}
 use Rattle.calls_words.specs.Blocks.{blockNo, blocked, sampled}
 use Rattle.laws_promises.specs.History
 use Rattle.laws_promises.specs.History.{Call, answers, entries, Ledger, accepts, restarts, renders, restartIn, enters, isAccepted, entered}

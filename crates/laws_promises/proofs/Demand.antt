@@ -12,8 +12,8 @@ use Rattle.laws.proofs.Tests.{on-eq}
 use Rattle.queue.specs.declared.Write.{Write}
 use Rattle.queue.specs.Waiting.{waiting}
 use Rattle.queue.proofs.Ring.{length-waiting}
-use Rattle.clocking.specs.declared.Chip.{Chip}
-use Rattle.clocking.specs.Word.{afterOne, afterWords}
+use Rattle.chip.specs.declared.Chip.{Chip}
+use Rattle.clocking_block.specs.Block.{afterOne, afterWords}
 use Rattle.chip.specs.Clocks.{clocksNo, clocksOf}
 use Rattle.chip.proofs.InRange.{InRange, passes}
 use Rattle.answers.specs.declared.Answered.{Answered}

@@ -13,11 +13,14 @@ use Rattle.laws.proofs.Tests.{by-cond, by-eq, by-le}
 use Rattle.generators.specs.declared.Generators.{Generators}
 use Rattle.generators.specs.Generators.{tick}
 use Rattle.gates.specs.declared.Gates.{Gates}
-use Rattle.queue.specs.Waiting.{dropped, applyAll, drain}
-use Rattle.clocking.specs.declared.Chip.{Chip}
-use Rattle.clocking.specs.declared.Ran.{Ran}
-use Rattle.clocking.specs.Ticks.{oneMore, ticking, ticked}
-use Rattle.clocking.specs.Word.{afterOne, drained, ranOf, wordOf, wordFrom, ticksOf, wordsOf}
+use Rattle.queue.specs.Waiting.{dropped}
+use Rattle.queue_flush.specs.Applied.{applyAll}
+use Rattle.queue_drain.specs.Drain.{drain}
+use Rattle.chip.specs.declared.Chip.{Chip}
+use Rattle.clocking_ticks.specs.declared.Ran.{Ran}
+use Rattle.clocking_ticks.specs.Ticks.{oneMore, ticking, ticked}
+use Rattle.clocking_block.specs.Block.{afterOne, ticksOf, wordsOf}
+use Rattle.clocking_word.specs.Word.{drained, ranOf, wordOf, wordFrom}
 use Rattle.chip.specs.Range.{chipIn}
 use Rattle.answers.specs.declared.Blocked.{Blocked}
 use Rattle.calls_words.specs.Blocks.{blockNo, blockPlayed, blockRefused, blocked, blockBuffer, sampled}

@@ -9,7 +9,7 @@ use Rattle.laws.proofs.Lists.{all-append}
 use Rattle.noise.specs.Course.{Agrees}
 use Rattle.queue.specs.Waiting.{waiting}
 use Rattle.queue.proofs.Laws.{waiting-empty, waiting-emptied}
-use Rattle.clocking.specs.declared.Chip.{Chip}
+use Rattle.chip.specs.declared.Chip.{Chip}
 use Rattle.chip.specs.Clocks.{clocksNo, clocksOf}
 use Rattle.chip.proofs.InRange.{InRange}
 use Rattle.calls_making.specs.Making.{madeOf, resetOf}

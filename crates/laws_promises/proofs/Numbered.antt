@@ -9,7 +9,7 @@ use Rattle.laws.proofs.Tests.{by-cond, by-eq, by-le, by-lt}
 use Rattle.mixer.specs.declared.Channels.{Channels}
 use Rattle.queue.specs.declared.Pushed.{Pushed}
 use Rattle.queue.specs.Waiting.{push}
-use Rattle.clocking.specs.declared.Chip.{Chip}
+use Rattle.chip.specs.declared.Chip.{Chip}
 use Rattle.chip.specs.Range.{chipIn}
 use Rattle.answers.specs.declared.Answered.{Answered}
 use Rattle.answers.specs.declared.Blocked.{Blocked}

@@ -8,11 +8,11 @@ use lib.ListN.{length}
 use Rattle.refusals.specs.Numbers.{accepted}
 use Rattle.laws.proofs.Tests.{on-ne}
 use Rattle.channel.specs.declared.Drum.{Drum}
-use Rattle.clocking.specs.declared.Chip.{Chip}
+use Rattle.chip.specs.declared.Chip.{Chip}
 use Rattle.chip.specs.Clocks.{clocksNo}
 use Rattle.answers.specs.declared.Answered.{Answered}
 use Rattle.answers.specs.Answers.{answered}
-use Rattle.calls_making.specs.Making.{fresh, withClocks, resetCall}
+use Rattle.calls_making.specs.Making.{fresh, withClocks, resetCall, defaultMaster, defaultRate}
 use Rattle.calls_registers.specs.Stored.{dumpRegisters, loadRegisters, readRegister, writeRegister}
 use Rattle.calls_ports.specs.Ports.{readPort, writePort, writePortImmediate}
 use Rattle.calls_cycles.specs.Cycles.{cpuCycle, flushPendingWrites, pendingWriteCount, setCpuCycle, syncSampleCycle}
@@ -76,7 +76,7 @@ public c =
     }
 
 -- `new`, and `with_clocks` where it refuses, begin histories that are among the demand's: at the default clocks
-pub new-begins : fresh ≡ withClocks 2000000 44100 .chip
+pub new-begins : fresh ≡ withClocks defaultMaster defaultRate .chip
 unfolding fresh withClocks clocksNo
 new-begins = refl
 
@@ -84,5 +84,5 @@ refused-fresh : (master rate : ℕ) → (clocksNo master rate ≡ accepted → �
 unfolding withClocks
 refused-fresh master rate f = ap (λ (a : Answered). a .chip) (sym (on-ne (clocksNo master rate) accepted _ _ _ f refl))
 
-pub refused-begins : (master rate : ℕ) → (clocksNo master rate ≡ accepted → ⊥) → withClocks master rate .chip ≡ withClocks 2000000 44100 .chip
+pub refused-begins : (master rate : ℕ) → (clocksNo master rate ≡ accepted → ⊥) → withClocks master rate .chip ≡ withClocks defaultMaster defaultRate .chip
 refused-begins master rate f = refused-fresh master rate f ∙ new-begins

@@ -27,9 +27,9 @@ use Rattle.registers.specs.declared.Voice.{Voice}
 use Rattle.registers.specs.Registers.{pairAt, tonePeriodSet, noisePeriodSet, gatesSet, envelopePeriodSet, shapeSet, voiceSet, applyRegister, loadedFrom}
 use Rattle.registers.specs.Reset.{voiceReset}
 use Rattle.queue.specs.declared.Write.{Write}
-use Rattle.queue.specs.Waiting.{applyAll}
-use Rattle.clocking.specs.declared.Ran.{Ran}
-use Rattle.clocking.specs.Ticks.{oneMore, ticking, ticked}
+use Rattle.queue_flush.specs.Applied.{applyAll}
+use Rattle.clocking_ticks.specs.declared.Ran.{Ran}
+use Rattle.clocking_ticks.specs.Ticks.{oneMore, ticking, ticked}
 use Rattle.calls_effects.specs.Effects.{irqSet}
 use Rattle.laws_promises.specs.History.{restartIn}
 

@@ -10,12 +10,15 @@ use lib.ListN.{length}
 use Rattle.laws.specs.All.{All}
 use Rattle.noise.specs.Course.{Agrees}
 use Rattle.queue.specs.declared.Write.{Write}
-use Rattle.queue.specs.Waiting.{waiting, due, late, drain}
+use Rattle.queue.specs.Waiting.{waiting, due, late}
+use Rattle.queue_drain.specs.Drain.{drain}
 use Rattle.queue.proofs.Due.{due-late}
-use Rattle.queue.proofs.Laws.{waiting-drain, applied-in}
-use Rattle.clocking.specs.declared.Chip.{Chip}
-use Rattle.clocking.specs.Word.{endOf, drained, ranOf, wordOf, afterOne, afterWords}
-use Rattle.clocking.proofs.Kept.{Stepped, stepped}
+use Rattle.queue_drain.proofs.Ruled.{waiting-drain}
+use Rattle.queue_flush.proofs.Applying.{applied-in}
+use Rattle.chip.specs.declared.Chip.{Chip}
+use Rattle.clocking_word.specs.Word.{endOf, drained, ranOf, wordOf}
+use Rattle.clocking_block.specs.Block.{afterOne, afterWords}
+use Rattle.clocking_word.proofs.Stepping.{Stepped, stepped}
 use Rattle.chip.proofs.InRange.{InRange, core-runs}
 use Rattle.laws_in_range.proofs.Kept.{words-kept}
 use Rattle.laws_promises.specs.History.{Entry, entryOf, entries, ticksIn, appliedIn, restartIn}

@@ -13,7 +13,7 @@ use Prim.Native.Nat.{ℕ, zero, suc, _+_, _-_, _*_, _/_, _^_, max, _≤_, _<_}
 use lib.IntN.{ℤ, pos}
 use lib.ListN.{length, getD}
 use lib.Signed.{leZ}
-use Rattle.clocking.specs.declared.Chip.{Chip}
+use Rattle.chip.specs.declared.Chip.{Chip}
 use Rattle.calls_cycles.specs.Cycles.{pendingWriteCount}
 use Rattle.envelope.specs.Range.{PositionInRange}
 use Rattle.laws.specs.All.{All}

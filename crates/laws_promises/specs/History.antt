@@ -7,8 +7,9 @@ use lib.ListN.{length}
 use Rattle.answers.specs.Answers.{answered}
 use Rattle.answers.specs.declared.Answered.{Answered}
 use Rattle.channel.specs.declared.Drum.{Drum}
-use Rattle.clocking.specs.Word.{afterOne, endOf, wordOf}
-use Rattle.clocking.specs.declared.Chip.{Chip}
+use Rattle.clocking_block.specs.Block.{afterOne}
+use Rattle.clocking_word.specs.Word.{endOf, wordOf}
+use Rattle.chip.specs.declared.Chip.{Chip}
 use Rattle.calls_cycles.specs.Cycles.{cpuCycle, flushPendingWrites, pendingWriteCount, setCpuCycle, syncSampleCycle}
 use Rattle.calls_effects.specs.Effects.{getChannelOutputs, isChannelMuted, setChannelMute, setDrumSampleOverride, setTimerIrqState, triggerEnvelope}
 use Rattle.calls_making.specs.Making.{resetCall}

@@ -12,7 +12,7 @@ use Rattle.text.specs.declared.lines.Line.{Line}
 use Rattle.dump.specs.Checked.{checked}
 use Rattle.dump.specs.declared.whole.Verdict.{Verdict}
 use Rattle.dump.proofs.Accepted.{accepted-laid}
-use Rattle.clocking.specs.declared.Chip.{Chip}
+use Rattle.chip.specs.declared.Chip.{Chip}
 use Rattle.answers.specs.declared.Answered.{Answered}
 use Rattle.answers.specs.declared.Blocked.{Blocked}
 use Rattle.calls_making.specs.Making.{withClocks}

@@ -1,5 +1,5 @@
 // The frames of a checked dump: one frame's words at a time, printed in large pieces.
-use clocking::Chip;
+use chip::Chip;
 use dump::Verdict;
 ghost use mathlib.Core.Path.{_≡_};
 ghost use Prim.Native.Nat.{_+_, _<_, _≤_};

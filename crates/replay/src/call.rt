@@ -4,7 +4,7 @@ use crate::field::One;
 use crate::field::Two;
 use crate::number;
 use answers::Answered;
-use clocking::Chip;
+use chip::Chip;
 
 pub fn with_clocks(desk: Desk, out: &mut [u8], n: Two) -> Desk {
     if !n.good {

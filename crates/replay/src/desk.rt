@@ -1,7 +1,7 @@
 // What a script plays on: its chip, how calls go to it, and the place in the output.
 use crate::say;
 use answers::Answered;
-use clocking::Chip;
+use chip::Chip;
 
 pub struct Desk {
     pub chip: Chip,

@@ -7,7 +7,7 @@ use crate::name;
 use crate::number;
 use answers::Answered;
 use channel::Drum;
-use clocking::Chip;
+use chip::Chip;
 
 pub fn irq(desk: Desk, out: &mut [u8], n: One) -> Desk {
     if !n.good {

@@ -9,7 +9,7 @@ use crate::say;
 use crate::seek;
 use crate::state;
 use crate::words;
-use clocking::Chip;
+use chip::Chip;
 
 const BYTE: u64 = 255;
 

@@ -9,7 +9,7 @@ use answers::Count;
 use answers::Cycle;
 use answers::Flag;
 use answers::Outputs;
-use clocking::Chip;
+use chip::Chip;
 use queue::Queue;
 
 pub fn read(desk: Desk, out: &mut [u8], n: One) -> Desk {

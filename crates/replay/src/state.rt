@@ -2,9 +2,9 @@
 use crate::say;
 use channel::Channel;
 use channel::Drum;
-use clocking::Chip;
-use clocking::Clocks;
-use clocking::Core;
+use chip::Chip;
+use chip::Clocks;
+use chip::Core;
 use envelope::Envelope;
 use gates::Gates;
 use generators::Generators;

@@ -7,7 +7,7 @@ use answers::Blocked;
 use answers::Played;
 use answers::Sample;
 use answers::Sampled;
-use clocking::Chip;
+use chip::Chip;
 
 // A longer block prints its first and last word and a check of all.
 const SHOWN: usize = 32;

@@ -22,15 +22,15 @@ reset-requires c κs = search needs
 reset-requires-2 : tie.Need-reset-requires-2
 reset-requires-2 c κs = search needs
 
-new-requires : tie.Need-new-requires
-new-requires c κs = search needs
+at-start-requires : tie.Need-at-start-requires
+at-start-requires c κs = search needs
 
 accepted-requires : tie.Need-accepted-requires
 accepted-requires c κs = search needs
 
 returns-2 : tie.Need-returns-2
 unfolding resetCall resetOf
-returns-2 c = on-yes _ _ _ _ _ (c .before .before .before .before .before .before .in-range .ensures) (c .before .before .before .before .before .if1 .left) (c .accepted .ensures ∙ rw (c .before .new .ensures, c .before .before .reset2 .ensures, c .before .before .before .reset .ensures))
+returns-2 c = on-yes _ _ _ _ _ (c .before .before .before .before .before .before .in-range .ensures) (c .before .before .before .before .before .if1 .left) (c .accepted .ensures ∙ rw (c .before .at-start .ensures, c .before .before .reset2 .ensures, c .before .before .before .reset .ensures))
 
 pub reset-spec : {M : Type 1} → statement M
 reset-spec =
@@ -41,6 +41,6 @@ reset-spec =
     returns
     reset-requires
     reset-requires-2
-    new-requires
+    at-start-requires
     accepted-requires
     returns-2)

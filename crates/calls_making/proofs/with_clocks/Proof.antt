@@ -2,7 +2,7 @@
 use mathlib.Core.Path.{sym, ap₂, _∙_}
 use Prim.Native.Nat.{ℕ}
 use Rattle.laws.proofs.Tests.{on-eq, on-ne}
-use Rattle.clocking.specs.declared.Chip.{Chip}
+use Rattle.chip.specs.declared.Chip.{Chip}
 use Rattle.answers.specs.Answers.{answered}
 use Rattle.calls_making.specs.Making.{withClocks}
 use borrow.Author.Needs.{needs}

@@ -1,0 +1,25 @@
+-- A block of words, one after the other. 01, "One tick, one word". Assumes nothing.
+use mathlib.Core.List.{List, [], _∷_}
+use Prim.Native.Nat.{ℕ, zero, suc, _+_}
+use Rattle.chip.specs.declared.Chip.{Chip}
+use Rattle.clocking_word.specs.Word.{wordOf}
+use Rattle.clocking_block.specs.declared.Rendered.{Rendered}
+
+-- n words, one after the other: the chip and the ticks after them, and the words
+abbrev pub afterOne : Chip → Chip
+afterOne c = let w = wordOf (c .core) (c .queue) in record { core = w .core; queue = w .queue }
+
+unfoldable pub afterWords : ℕ → Chip → Chip
+afterWords zero c = c
+afterWords (suc n) c = afterWords n (afterOne c)
+
+unfoldable pub ticksOf : ℕ → Chip → ℕ
+ticksOf zero c = 0
+ticksOf (suc n) c = wordOf (c .core) (c .queue) .ticks + ticksOf n (afterOne c)
+
+unfoldable pub wordsOf : ℕ → Chip → List ℕ
+wordsOf zero c = []
+wordsOf (suc n) c = wordOf (c .core) (c .queue) .word ∷ wordsOf n (afterOne c)
+
+abbrev pub blockOf : ℕ → Chip → Rendered
+blockOf n c = record { chip = afterWords n c; ticks = ticksOf n c }

@@ -1,0 +1,59 @@
+-- A word keeps the chip in range, and its ticks come to one internal clock. Assumes nothing.
+use mathlib.Core.Path.{_≡_, refl}
+use Prim.Native.Nat.{ℕ, zero, suc, _+_, _*_, _≤_, _<_}
+use native.Mathlib.Nat.{le-mul-of-pos-right}
+use native.Mathlib.Omega.{arith}
+use Rattle.laws.proofs.Tests.{by-le}
+use Rattle.generators.specs.declared.Generators.{Generators}
+use Rattle.generators.specs.Range.{GeneratorsInRange}
+use Rattle.generators.proofs.Kept.{tick-in}
+use Rattle.envelope.proofs.Circling.{envelope-level-lt}
+use Rattle.gates.specs.declared.Gates.{Gates}
+use Rattle.mixer.proofs.Laws.{mixed-le}
+use Rattle.registers.specs.Range.{VoiceInRange}
+use Rattle.queue.specs.declared.Queue.{Queue}
+use Rattle.queue.specs.Waiting.{QueueInRange}
+use Rattle.queue_drain.proofs.Ruled.{drained-in, drain-kept}
+use Rattle.chip.specs.declared.Core.{Core}
+use Rattle.clocking_ticks.specs.declared.Ran.{Ran}
+use Rattle.clocking_ticks.specs.Ticks.{oneMore, ticking, ticked}
+use Rattle.clocks.specs.Range.{ClocksRun}
+use Rattle.clocking_word.specs.Word.{endOf, drained, ranOf, mixedOf, Word, wordOf}
+use Rattle.chip.specs.Range.{CoreInRange}
+use Rattle.clocking_ticks.proofs.Adding.{Adds, ticked-adds}
+use Rattle.clocking_ticks.proofs.Ranging.{ticked-in}
+
+-- what one word keeps and adds
+pub record Stepped (c : Core) (w : Word) : Type 0 where
+  pub core : CoreInRange (w .core)
+  pub queue : QueueInRange (w .queue)
+  pub clocks : w .core .clocks ≡ c .clocks
+  pub start : w .core .start ≡ endOf c
+  pub sum : w .ticks * c .clocks .rate + c .accumulator ≡ c .clocks .internal + w .core .accumulator
+  pub few : w .ticks < 268435456
+  pub small : w .word ≤ 32766
+
+pub stepped : (c : Core) (q : Queue) → CoreInRange c → QueueInRange q → Stepped c (wordOf c q)
+unfolding wordOf drained ranOf mixedOf
+stepped c q h k =
+    let d = drained c q in
+    let v : VoiceInRange (d .voice) = drained-in (endOf c) q (h .voice) in
+    let r = ranOf c (d .voice) in
+    let g : GeneratorsInRange (r .generators)
+    = ticked-in (d .voice .gates) (c .clocks .rate) (c .clocks .internal) (c .accumulator) (v .generators)
+    in
+    let a : Adds (c .clocks .rate) (c .clocks .internal) (c .accumulator) 0 r = ticked-adds (d .voice .gates) (d .voice .generators) (h .run) in
+    let many : r .ticks ≤ r .ticks * c .clocks .rate = le-mul-of-pos-right (r .ticks) (omega (arith, h .run .under)) in
+    record {
+      core = record {
+        run = record { under = a .under; slow = h .run .slow; small = h .run .small };
+        cycles = h .cycles;
+        voice = record { bytes = v .bytes; generators = g; gates = v .gates };
+      };
+      queue = drain-kept (endOf c) (c .voice) q k;
+      clocks = refl;
+      start = refl;
+      sum = omega (arith, a .sum);
+      few = omega (arith, a .sum, a .under, h .run .slow, h .run .small, h .run .under);
+      small = mixed-le _ _ _ _ _ (envelope-level-lt (g .envelope));
+    }

@@ -1,0 +1,1 @@
+// The rules of accepted clocks. 01, "Numbers a call can answer".

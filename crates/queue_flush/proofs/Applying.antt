@@ -1,0 +1,13 @@
+-- Applied writes keep the voice in range. Assumes nothing.
+use mathlib.Core.List.{List, [], _∷_}
+use Rattle.registers.specs.declared.Voice.{Voice}
+use Rattle.registers.specs.Range.{VoiceInRange}
+use Rattle.registers.proofs.Kept.{apply-in}
+use Rattle.queue.specs.declared.Write.{Write}
+use Rattle.queue_flush.specs.Applied.{applyAll}
+
+-- writes keep the voice in range, however many
+pub applied-in : (l : List Write) {v : Voice} → VoiceInRange v → VoiceInRange (applyAll l v)
+unfolding applyAll
+applied-in [] h = h
+applied-in (w ∷ l) h = applied-in l (apply-in (w .register) (w .value) h)
