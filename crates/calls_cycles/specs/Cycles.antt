@@ -2,7 +2,7 @@
 use Prim.Native.Nat.{ℕ}
 use mathlib.Core.Bool.{cond}
 use Rattle.answers.specs.Answers.{does}
-use Rattle.chip_parts.specs.Parts.{onVoice, withCore, withQueue}
+use Rattle.chip_parts.specs.Parts.{onVoice, withQueue, withTimes}
 use Rattle.answers.specs.declared.Answered.{Answered}
 use Rattle.answers.specs.declared.Count.{Count}
 use Rattle.answers.specs.declared.Cycle.{Cycle}

@@ -3,7 +3,7 @@ use Prim.Native.Nat.{ℕ}
 use lib.Dec.{leb}
 use mathlib.Core.Bool.{Bool, cond, false, true}
 use Rattle.answers.specs.Answers.{answered, checked, does}
-use Rattle.chip_parts.specs.Parts.{onVoice}
+use Rattle.chip_parts.specs.Parts.{onVoice, withChannels}
 use Rattle.answers.specs.declared.Answered.{Answered}
 use Rattle.answers.specs.declared.Flag.{Flag}
 use Rattle.answers.specs.declared.Outputs.{Outputs}

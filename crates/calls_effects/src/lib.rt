@@ -1,7 +1,6 @@
 // The IRQ flag, the envelope's trigger, mutes, drums and last outputs. 01, "Registers and ports" and "One tick, one word".
 ghost use mathlib.Core.Path.{_≡_};
 ghost use Rattle.calls_effects.specs.Effects.{getChannelOutputs, irqSet, isChannelMuted, setChannelMute, setDrumSampleOverride, setTimerIrqState, triggerEnvelope};
-ghost use Rattle.chip_parts.specs.Parts.{withChannels};
 use answers::Answered;
 use answers::Flag;
 use answers::Outputs;

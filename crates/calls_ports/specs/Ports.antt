@@ -3,7 +3,7 @@ use Prim.Native.Nat.{_%_, _/_, ℕ}
 use lib.Dec.{eqb, ltb}
 use mathlib.Core.Bool.{cond}
 use Rattle.answers.specs.Answers.{answered, byteAnswer, checked}
-use Rattle.chip_parts.specs.Parts.{onVoice, voiceOf, withCore, withQueue}
+use Rattle.chip_parts.specs.Parts.{onVoice, voiceOf, withQueue, withSelection}
 use Rattle.answers.specs.declared.Answered.{Answered}
 use Rattle.answers.specs.declared.Byte.{Byte}
 use Rattle.chip.specs.declared.Chip.{Chip}
