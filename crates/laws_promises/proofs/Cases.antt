@@ -18,7 +18,8 @@ use Rattle.mixer.specs.Mix.{mixed}
 use Rattle.registers.specs.Registers.{pairAt, tonePeriodSet, noisePeriodSet, gatesSet, envelopePeriodSet, shapeSet, voiceSet, masked, applyRegister}
 use Rattle.registers.specs.Reset.{voiceReset}
 use Rattle.queue.specs.Waiting.{writesFrom, waiting, due, late, push, queueIn}
-use Rattle.queue_flush.specs.Applied.{applyAll}
+use Rattle.registers.specs.Writes.{appliedInOrder}
+use Rattle.queue_flush.specs.Applied.{registerWrites}
 use Rattle.queue_drain.specs.Drain.{drain}
 use Rattle.clocking_ticks.specs.Ticks.{ticking, ticked}
 use Rattle.clocking_word.specs.Word.{drained, ranOf, mixedOf, wordOf}
@@ -64,5 +65,5 @@ pub cases : (map (λ (w : Entry). w .ticks) (words four-words) ≡ 6 ∷ 6 ∷ 6
     × (ledger (late-then-early ++ reset ∷ compute-next-sample ∷ []) fresh blank .accepted ≡ [])
     × (ledger (write-port 0 13 ∷ write-port 2 8 ∷ three-words) fresh blank .restarted ≡ true)
     × (positionOf (after (write-port 0 13 ∷ write-port 2 8 ∷ four-words) fresh) ≡ negsuc 40)
-unfolding shapeEntry entryAt toneSet toneTick registerStep outputBy noiseTick nextPosition envelopeTick placeOf envelopeLevel tick edgesOf toneAt putTone tonesSet seeded powerOnEdges generatorsReset gatesFrom gateOf heard sounded levelUsed gatedLevel loudnessOf mixed pairAt tonePeriodSet noisePeriodSet gatesSet envelopePeriodSet shapeSet voiceSet masked applyRegister voiceReset writesFrom waiting due late applyAll push drain queueIn ticking ticked drained ranOf mixedOf wordOf afterWords ticksOf clocksNo clocksIn bytesIn toneIn allOrNone noiseIn envelopeIn generatorsIn gatesIn voiceIn coreIn chipIn madeOf fresh resetOf resetCall writePort setCpuCycle syncSampleCycle flushPendingWrites blockNumber blocked sampled answers after entries enters entered ledger reach
+unfolding shapeEntry entryAt toneSet toneTick registerStep outputBy noiseTick nextPosition envelopeTick placeOf envelopeLevel tick edgesOf toneAt putTone tonesSet seeded powerOnEdges generatorsReset gatesFrom gateOf heard sounded levelUsed gatedLevel loudnessOf mixed pairAt tonePeriodSet noisePeriodSet gatesSet envelopePeriodSet shapeSet voiceSet masked applyRegister voiceReset writesFrom waiting due late appliedInOrder registerWrites push drain queueIn ticking ticked drained ranOf mixedOf wordOf afterWords ticksOf clocksNo clocksIn bytesIn toneIn allOrNone noiseIn envelopeIn generatorsIn gatesIn voiceIn coreIn chipIn madeOf fresh resetOf resetCall writePort setCpuCycle syncSampleCycle flushPendingWrites blockNumber blocked sampled answers after entries enters entered ledger reach
 cases = (refl, refl, refl, refl, refl, refl, refl, refl, refl)

@@ -15,7 +15,8 @@ use Rattle.registers.specs.Registers.{applyRegister}
 use Rattle.queue.specs.declared.Write.{Write}
 use Rattle.queue.specs.declared.Pushed.{Pushed}
 use Rattle.queue.specs.Waiting.{waiting, push}
-use Rattle.queue_flush.specs.Applied.{applyAll}
+use Rattle.registers.specs.Writes.{appliedInOrder}
+use Rattle.queue_flush.specs.Applied.{registerWrites}
 use Rattle.queue.proofs.Ring.{waiting-pushed}
 use Rattle.chip.specs.declared.Chip.{Chip}
 use Rattle.clocking_block.specs.Block.{afterWords}
@@ -154,7 +155,7 @@ module _ (x : Call) (c : Chip) (l : Ledger) where
       → Comes (restarts (restartIn (cond select [] (stamped value c ∷ []))) l)
       (cond select (answered accepted (withSelection (value % 16) c))
       (answered accepted (onVoice (applyRegister (c .core .selected) value) c)))
-  unfolding applyAll
+  unfolding appliedInOrder registerWrites
   immediate true value = aside (withSelection (value % 16) c) refl refl refl refl
   immediate false value = voiced (all-leave (stamped value c ∷ []) (c .core .voice))
 

@@ -27,7 +27,8 @@ use Rattle.registers.specs.declared.Voice.{Voice}
 use Rattle.registers.specs.Registers.{pairAt, tonePeriodSet, noisePeriodSet, gatesSet, envelopePeriodSet, shapeSet, voiceSet, applyRegister, loadedFrom}
 use Rattle.registers.specs.Reset.{voiceReset}
 use Rattle.queue.specs.declared.Write.{Write}
-use Rattle.queue_flush.specs.Applied.{applyAll}
+use Rattle.registers.specs.Writes.{appliedInOrder}
+use Rattle.queue_flush.specs.Applied.{applyAll, registerWrites}
 use Rattle.clocking_ticks.specs.declared.Ran.{Ran}
 use Rattle.clocking_ticks.specs.Ticks.{oneMore, ticking, ticked}
 use Rattle.calls_effects.specs.Effects.{irqSet}
@@ -98,7 +99,7 @@ apply-leaves r x v =
 
 -- writes in order
 pub all-leave : (l : List Write) (v : Voice) → Leaves (restartIn l) v (applyAll l v)
-unfolding applyAll
+unfolding appliedInOrder registerWrites
 all-leave [] v = record { register = refl; output = refl; position = λ _. refl }
 all-leave (w ∷ l) v = leaves-both (apply-leaves (w .register) (w .value) v) (all-leave l _)
 

@@ -10,7 +10,8 @@ use Rattle.queue.specs.declared.Write.{Write}
 use Rattle.queue.specs.declared.Queue.{Queue}
 use Rattle.queue_drain.specs.declared.Drained.{Drained}
 use Rattle.queue.specs.Waiting.{writesFrom, waiting, due, dropped, ring, QueueInRange}
-use Rattle.queue_flush.specs.Applied.{applyAll}
+use Rattle.registers.specs.Writes.{appliedInOrder}
+use Rattle.queue_flush.specs.Applied.{registerWrites}
 use Rattle.queue_drain.specs.Drain.{AfterDrain, drain, Drains}
 use Rattle.queue.proofs.Ring.{waiting-front}
 use Rattle.queue.proofs.Due.{due-on, due-stops}
@@ -28,7 +29,7 @@ front-waits q h some =
 
 -- nothing due: the drain changes nothing
 drain-rests : (end : ℕ) (v : Voice) (q : Queue) → QueueInRange q → due end (waiting q) ≡ [] → drain end v q ≡ record { voice = v; queue = q }
-unfolding drain applyAll
+unfolding drain appliedInOrder registerWrites
 drain-rests end v q h e =
     let a : (q .head + 0) % 256 ≡ q .head = omega (arith, h .head) in
     let b : q .count - 0 ≡ q .count = omega arith in
@@ -37,7 +38,7 @@ drain-rests end v q h e =
 -- the front is due: a drain applies it and goes on behind it
 drain-on : (end : ℕ) (v : Voice) (q : Queue) → QueueInRange q → 0 < q .count → front q .stamp ≤ end
     → drain end v q ≡ drain end (applyRegister (front q .register) (front q .value) v) (dropped 1 q)
-unfolding drain applyAll
+unfolding drain appliedInOrder registerWrites
 drain-on end v q ok some h =
     let e : due end (waiting q) ≡ front q ∷ due end (waiting (dropped 1 q))
     = ap (due end) (front-waits q ok some) ∙ due-on end (front q) (waiting (dropped 1 q)) h

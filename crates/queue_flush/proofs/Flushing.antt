@@ -9,7 +9,8 @@ use Rattle.registers.specs.Registers.{applyRegister}
 use Rattle.queue.specs.declared.Write.{Write}
 use Rattle.queue.specs.declared.Queue.{Queue}
 use Rattle.queue.specs.Waiting.{writesFrom, waiting, QueueInRange}
-use Rattle.queue_flush.specs.Applied.{applyAll}
+use Rattle.registers.specs.Writes.{appliedInOrder}
+use Rattle.queue_flush.specs.Applied.{applyAll, registerWrites}
 use Rattle.queue.proofs.Ring.{from, from-cons, from-round}
 
 pub record Flushing (q : Queue) (v₀ v : Voice) (at left : ℕ) : Type 0 where
@@ -36,12 +37,12 @@ module _ {q : Queue} {v₀ v : Voice} {at left : ℕ} (f : Flushing q v₀ v at 
 
   pub flushing-on : {v′ : Voice} → 0 < left → v′ ≡ applyRegister (getD (q .registers) at 0) (getD (q .values) at 0) v
       → Flushing q v₀ v′ ((at + 1) % 256) (left - 1)
-  unfolding applyAll
+  unfolding appliedInOrder registerWrites
   flushing-on {v′} some e =
       record { ok = f .ok; place = omega arith; rest = rw e (sym (ap (λ (l : List Write). applyAll l v) (next some)) ∙ f .rest) }
 
   pub flushing-end : left ≤ 0 → v ≡ applyAll (waiting q) v₀
-  unfolding applyAll writesFrom
+  unfolding appliedInOrder registerWrites writesFrom
   flushing-end h =
       let none : left ≡ 0 = omega arith in
       rw none at (f .rest)
