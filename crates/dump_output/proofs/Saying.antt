@@ -5,7 +5,7 @@ use Prim.Native.Nat.{ℕ, suc, _+_, _^_, _≤_, _<_}
 use native.Mathlib.Omega.{arith}
 use lib.ListN.{length, replicate, length-append}
 use Rattle.text.specs.Bytes.{bytes}
-use Rattle.dump_output.specs.Text.{numberText, over, laid, placeAfter}
+use Rattle.dump_output.specs.Text.{numberText, overlaid, laid, placeAfter}
 use Rattle.dump_output.specs.Printed.{refusalText, totalText, textOf}
 use Rattle.dump_output.proofs.Laying.{laid-over, place-over, over-over, over-long}
 use Rattle.dump_output.proofs.Spelling.{spelt-few}
@@ -18,17 +18,17 @@ module _ (out : List ℕ) (at : ℕ) (a b : List ℕ) (h : at + length (a ++ b) 
   front-fits : at + length a ≤ length out
   front-fits = omega (arith, both-fit)
 
-  rest-fits : at + length a + length b ≤ length (over out at a)
+  rest-fits : at + length a + length b ≤ length (overlaid out at a)
   rest-fits = omega (arith, both-fit, over-long out at a front-fits)
 
   pub then-place : placeAfter (laid out at a) (placeAfter out at a) b ≡ placeAfter out at (a ++ b)
   then-place =
-      rw (laid-over out at a front-fits, place-over out at a front-fits, place-over (over out at a) (at + length a) b rest-fits, place-over out at (a ++ b) h)
+      rw (laid-over out at a front-fits, place-over out at a front-fits, place-over (overlaid out at a) (at + length a) b rest-fits, place-over out at (a ++ b) h)
       (omega (arith, length-append a b))
 
   pub then-laid : laid (laid out at a) (placeAfter out at a) b ≡ laid out at (a ++ b)
   then-laid =
-      rw (laid-over out at a front-fits, place-over out at a front-fits, laid-over (over out at a) (at + length a) b rest-fits, laid-over out at (a ++ b) h)
+      rw (laid-over out at a front-fits, place-over out at a front-fits, laid-over (overlaid out at a) (at + length a) b rest-fits, laid-over out at (a ++ b) h)
       (over-over out at a b front-fits)
 
 -- the place and the bytes after a text

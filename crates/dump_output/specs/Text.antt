@@ -26,15 +26,15 @@ linesOf [] = []
 linesOf (w ∷ ws) = numberText w 10 ++ linesOf ws
 
 -- the buffer with bytes from `at` on, and the place after them
-abbrev pub over : List ℕ → ℕ → List ℕ → List ℕ
-over out at bytes = take at out ++ bytes ++ drop (at + length bytes) out
+abbrev pub overlaid : List ℕ → ℕ → List ℕ → List ℕ
+overlaid out at bytes = take at out ++ bytes ++ drop (at + length bytes) out
 
 -- both as they were where the bytes do not fit
 abbrev pub fits : List ℕ → ℕ → List ℕ → Bool
 fits out at bytes = leb (at + length bytes) (length out)
 
 unfoldable pub laid : List ℕ → ℕ → List ℕ → List ℕ
-laid out at bytes = cond (fits out at bytes) (over out at bytes) out
+laid out at bytes = cond (fits out at bytes) (overlaid out at bytes) out
 
 unfoldable pub placeAfter : List ℕ → ℕ → List ℕ → ℕ
 placeAfter out at bytes = cond (fits out at bytes) (at + length bytes) at
@@ -44,7 +44,7 @@ abbrev pub roomy : List ℕ → ℕ → List ℕ → Bool
 roomy out at words = leb (at + 6 * length words) (length out)
 
 unfoldable pub wordsLaid : List ℕ → ℕ → List ℕ → List ℕ
-wordsLaid out at words = cond (roomy out at words) (over out at (linesOf words)) out
+wordsLaid out at words = cond (roomy out at words) (overlaid out at (linesOf words)) out
 
 unfoldable pub wordsPlace : List ℕ → ℕ → List ℕ → ℕ
 wordsPlace out at words = cond (roomy out at words) (at + length (linesOf words)) at
