@@ -7,9 +7,10 @@ use native.Mathlib.Omega.{arith}
 use borrow.Author.Tests.{le-leb, lt-leb}
 use lib.ListN.{length, take, drop, getD, length-append}
 use lib.Seq.{take-suc, take-all}
-use Rattle.dump_output.specs.Text.{numberText, linesOf, overlaid, laid, placeAfter, wordsLaid, wordsPlace}
-use Rattle.dump_output.proofs.Laying.{laid-over, place-over, over-none, over-over, over-long}
-use Rattle.dump_output.proofs.Spelling.{spelt-few}
+use Rattle.text_put.specs.Text.{numberText, overlaid, laid, placeAfter}
+use Rattle.dump_output.specs.Words.{linesOf, wordsLaid, wordsPlace}
+use Rattle.text_put.proofs.Laying.{laid-over, place-over, over-none, over-over, over-long}
+use Rattle.text_put.proofs.Spelling.{spelt-few}
 
 abbrev pub Lined : List ℕ → ℕ → List ℕ → ℕ → List ℕ → Type 0
 Lined out at words r after = (r ≡ wordsPlace out at words) × (after ≡ wordsLaid out at words)

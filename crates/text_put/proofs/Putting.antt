@@ -7,9 +7,9 @@ use native.Mathlib.Omega.{arith}
 use lib.ListN.{length, take, drop, getD, set, length-append, length-set, List·getD-append}
 use lib.Seq.{paste, paste-zero, paste-suc, getD-take, getD-at}
 use Rattle.io.specs.Digits.{Fewest}
-use Rattle.dump_output.specs.Text.{decimalText, numberText, overlaid, laid, placeAfter}
-use Rattle.dump_output.proofs.Laying.{laid-over, place-over, laid-not, place-not, over-paste}
-use Rattle.dump_output.proofs.Spelling.{Spelled, decimal-long}
+use Rattle.text_put.specs.Text.{decimalText, numberText, overlaid, laid, placeAfter}
+use Rattle.text_put.proofs.Laying.{laid-over, place-over, laid-not, place-not, over-paste}
+use Rattle.text_put.proofs.Spelling.{Spelled, decimal-long}
 
 -- the answer and the buffer at exit
 abbrev pub Put : List ℕ → ℕ → List ℕ → ℕ → List ℕ → Type 0

@@ -6,7 +6,7 @@ use native.Mathlib.Omega.{arith}
 use borrow.Author.Tests.{le-leb, lt-leb}
 use lib.ListN.{length, take, drop, length-append, length-drop}
 use lib.Seq.{paste, length-take-le, take-length, take-at, drop-append-add, drop-drop, paste-zero, length-paste}
-use Rattle.dump_output.specs.Text.{overlaid, laid, placeAfter}
+use Rattle.text_put.specs.Text.{overlaid, laid, placeAfter}
 
 module _ (out : List ℕ) (at : ℕ) (bytes : List ℕ) where
   pub laid-over : at + length bytes ≤ length out → laid out at bytes ≡ overlaid out at bytes
