@@ -9,7 +9,8 @@ use Rattle.clocking.specs.declared.Clocks.{Clocks}
 use Rattle.envelope.specs.Envelope.{start}
 use Rattle.mixer.specs.Mix.{allQuiet, channelsReset}
 use Rattle.queue.specs.Waiting.{empty}
-use Rattle.chip.specs.Clocks.{clocksNo, clocksOf}
+use Rattle.clocks.specs.Clocks.{clocksNo}
+use Rattle.chip.specs.Clocks.{clocksOf}
 use Rattle.refusals.specs.Numbers.{accepted}
 use Rattle.registers.specs.Reset.{voiceNew, voiceReset}
 

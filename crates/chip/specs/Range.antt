@@ -22,7 +22,7 @@ use Rattle.queue.specs.Waiting.{queueIn}
 use Rattle.clocking.specs.declared.Clocks.{Clocks}
 use Rattle.clocking.specs.declared.Core.{Core}
 use Rattle.clocking.specs.declared.Chip.{Chip}
-use Rattle.chip.specs.Clocks.{clocksNo}
+use Rattle.clocks.specs.Clocks.{clocksNo}
 
 -- accepted clocks and their quotients, accumulator below the rate,
 unfoldable pub clocksIn : Clocks → ℕ → Bool

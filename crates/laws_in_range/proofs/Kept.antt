@@ -18,9 +18,10 @@ use Rattle.queue.proofs.Laws.{empty-kept, emptied-kept, push-kept, applied-in}
 use Rattle.clocking.specs.declared.Chip.{Chip}
 use Rattle.clocking.specs.Word.{drained, ranOf, mixedOf, wordOf, afterOne, afterWords}
 use Rattle.clocking.proofs.Kept.{Stepped, stepped}
-use Rattle.chip.specs.Clocks.{clocksNo, clocksOf}
+use Rattle.clocks.specs.Clocks.{clocksNo}
+use Rattle.chip.specs.Clocks.{clocksOf}
 use Rattle.chip.specs.Range.{chipIn}
-use Rattle.chip.proofs.Verdicts.{Accepted, accepts}
+use Rattle.clocks.proofs.Accepted.{Accepted, accepts}
 use Rattle.chip.proofs.InRange.{InRange, passes, core-runs}
 use Rattle.answers.specs.declared.Answered.{Answered}
 use Rattle.answers.specs.declared.Blocked.{Blocked}

@@ -20,7 +20,7 @@ use Rattle.registers.specs.Reset.{voiceReset}
 use Rattle.queue.specs.Waiting.{writesFrom, waiting, due, late, applyAll, push, drain, queueIn}
 use Rattle.clocking.specs.Ticks.{ticking, ticked}
 use Rattle.clocking.specs.Word.{drained, ranOf, mixedOf, wordOf, afterWords, ticksOf}
-use Rattle.chip.specs.Clocks.{clocksNo}
+use Rattle.clocks.specs.Clocks.{clocksNo}
 use Rattle.chip.specs.Range.{clocksIn, bytesIn, toneIn, allOrNone, noiseIn, envelopeIn, generatorsIn, gatesIn, voiceIn, coreIn, chipIn}
 use Rattle.calls_making.specs.Making.{madeOf, fresh, withClocks, resetOf, resetCall}
 use Rattle.calls_ports.specs.Ports.{writePort}
