@@ -8,7 +8,8 @@ use Rattle.chip.specs.declared.Chip.{Chip}
 use Rattle.chip_parts.specs.Parts.{atStart}
 use Rattle.chip.specs.declared.Clocks.{Clocks}
 use Rattle.mixer.specs.Mix.{allQuiet, channelsReset}
-use Rattle.chip.specs.Clocks.{clocksNo, clocksOf}
+use Rattle.clocks.specs.Clocks.{clocksNo}
+use Rattle.chip.specs.Clocks.{clocksOf}
 use Rattle.refusals.specs.Numbers.{accepted}
 use Rattle.registers.specs.Reset.{voiceNew, voiceReset}
 

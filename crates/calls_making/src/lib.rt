@@ -21,7 +21,7 @@ pub fn new() -> Chip
 pub fn with_clocks(master: u32, rate: u32) -> Answered
     ensures { λ r. ⌜ r ≡ withClocks master rate ⌝ }
 {
-    let no = chip::clocks_no(master, rate);
+    let no = clocks::clocks_no(master, rate);
     if no != refusals::ACCEPTED {
         let chip = new();
         return Answered { chip, no };

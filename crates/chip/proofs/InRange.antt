@@ -34,8 +34,8 @@ use Rattle.queue.specs.Waiting.{queueIn, QueueInRange}
 use Rattle.queue.proofs.Range.{queue-passed, queue-passes}
 use Rattle.chip.specs.declared.Chip.{Chip}
 use Rattle.chip.specs.Range.{CoreInRange, clocksIn, bytesIn, toneIn, allOrNone, noiseIn, envelopeIn, generatorsIn, gatesIn, voiceIn, coreIn, chipIn}
-use Rattle.chip.specs.Clocks.{clocksNo}
-use Rattle.chip.proofs.Verdicts.{Accepted, accepts}
+use Rattle.clocks.specs.Clocks.{clocksNo}
+use Rattle.clocks.proofs.Accepted.{Accepted, accepts}
 
 -- edges in range are within the channel's five bits
 module _ (channel e : ℕ) (low : e % 2 ^ (5 * channel) ≡ 0) (high : e < 2 ^ (5 * channel + 5)) where

@@ -1,8 +1,7 @@
 -- Tests that the code makes of a call's number, and of a position as the machine holds it. Assumes nothing.
 use mathlib.Core.Bool.{Bool, true, false, not, cond}
 use mathlib.Core.Path.{_≡_, refl, sym, ap, _∙_}
-use Prim.Native.Nat.{ℕ, _/_, _≤_, _<_}
-use native.Mathlib.Omega.{arith}
+use Prim.Native.Nat.{ℕ, _<_}
 use borrow.Author.Tests.{le-leb, lt-leb, lt-ltb, le-ltb}
 use lib.Dec.{leb, ltb, eqb}
 use lib.IntN.{ℤ, pos, negsuc}
@@ -10,8 +9,7 @@ use lib.Signed.{mag, ltZ, leZ}
 use mir.Facts.{toZ-ofZ}
 use mir.Syntax.{w32}
 use mir.Val.{SFits, toZ, ofZ}
-use Rattle.laws.proofs.Tests.{on-true, on-false, on-eq, on-ne, by-order, by-lt, by-eq}
-use Rattle.chip.specs.Clocks.{clocksNo}
+use Rattle.laws.proofs.Tests.{on-true, on-false, on-eq, on-ne, by-order}
 
 -- a number that a call gave
 pub on-same : {A : Type 0} (r t n : ℕ) (x a b : A) → r ≡ t → r ≡ n → x ≡ a → x ≡ cond (eqb t n) a b
@@ -50,17 +48,3 @@ module _ {A : Type 0} (p : ℤ) (q : ℤ) (x a b : A) (h : mag p < 2147483648) w
 pub ruleset numbers = (on-same, on-other)
 
 pub ruleset positions = (on-below, on-from, on-above, on-to)
-
--- accepted clocks: the rate is at least 1 and at most the internal clock, which is small
-pub record Accepted (master rate : ℕ) : Type 0 where
-  pub some : 0 < rate
-  pub slow : rate ≤ master / 8
-  pub small : master ≤ 1073741823
-
-pub accepts : (master rate : ℕ) → clocksNo master rate ≡ 0 → Accepted master rate
-unfolding clocksNo
-accepts master rate =
-    by-lt (λ (n : ℕ). n ≡ 0 → Accepted master rate) 1073741823 master (λ _ e. absurd (omega arith))
-    (λ small. by-eq (λ (n : ℕ). n ≡ 0 → Accepted master rate) rate 0 (λ _ e. absurd (omega arith))
-    (λ some. by-lt (λ (n : ℕ). n ≡ 0 → Accepted master rate) (master / 8) rate (λ _ e. absurd (omega arith))
-    (λ slow e. record { some = omega arith; slow = slow; small = small })))

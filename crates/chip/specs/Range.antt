@@ -24,7 +24,7 @@ use Rattle.chip.specs.declared.Clocks.{Clocks}
 use Rattle.chip.specs.declared.Core.{Core}
 use Rattle.chip.specs.declared.Chip.{Chip}
 use Rattle.clocks.specs.Range.{ClocksRun}
-use Rattle.chip.specs.Clocks.{clocksNo}
+use Rattle.clocks.specs.Clocks.{clocksNo}
 
 -- accepted clocks and their quotients, accumulator below the rate,
 unfoldable pub clocksIn : Clocks → ℕ → Bool

@@ -2,7 +2,8 @@
 ghost use mathlib.Core.Path.{_≡_};
 ghost use Prim.Native.Nat.{_<_};
 ghost use Rattle.refusals.specs.Numbers.{accepted};
-ghost use Rattle.chip.specs.Clocks.{clocksNo, clocksOf};
+ghost use Rattle.clocks.specs.Clocks.{clocksNo};
+ghost use Rattle.chip.specs.Clocks.{clocksOf};
 ghost use Rattle.chip.specs.Range.{clocksIn, bytesIn, toneIn, noiseIn, allOrNone, envelopeIn, generatorsIn, gatesIn, voiceIn, coreIn, chipIn};
 use envelope::Envelope;
 use gates::Gates;
@@ -35,21 +36,6 @@ pub struct Core {
 pub struct Chip {
     pub core: Core,
     pub queue: Queue,
-}
-
-pub fn clocks_no(master: u32, rate: u32) -> u8
-    ensures { λ r. ⌜ r ≡ clocksNo master rate ⌝ }
-{
-    if master > 1_073_741_823 {
-        return refusals::MASTER_TOO_HIGH;
-    }
-    if rate == 0 {
-        return refusals::RATE_ZERO;
-    }
-    if rate > master / 8 {
-        return refusals::RATE_TOO_HIGH;
-    }
-    refusals::ACCEPTED
 }
 
 // The quotients of clocks that are accepted.
@@ -95,7 +81,7 @@ fn core_in(core: Core) -> bool
 fn clocks_in(clocks: Clocks, accumulator: u32) -> bool
     ensures { λ r. ⌜ r ≡ clocksIn clocks accumulator ⌝ }
 {
-    if clocks_no(clocks.master, clocks.rate) != refusals::ACCEPTED {
+    if clocks::clocks_no(clocks.master, clocks.rate) != refusals::ACCEPTED {
         return false;
     }
     if clocks.internal != clocks.master / 8 {

@@ -21,7 +21,8 @@ use Rattle.clocking_word.specs.Word.{wordOf}
 use Rattle.clocking_block.specs.Block.{afterOne, afterWords, wordsOf}
 use Rattle.chip.specs.Range.{chipIn}
 use Rattle.chip.proofs.InRange.{InRange, passes, core-runs}
-use Rattle.chip.specs.Clocks.{clocksNo, clocksOf}
+use Rattle.clocks.specs.Clocks.{clocksNo}
+use Rattle.chip.specs.Clocks.{clocksOf}
 use Rattle.answers.specs.Answers.{answered}
 use Rattle.answers.specs.declared.Answered.{Answered}
 use Rattle.answers.specs.declared.Blocked.{Blocked}

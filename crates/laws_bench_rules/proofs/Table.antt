@@ -23,7 +23,7 @@ use Rattle.queue_drain.specs.Drain.{drain}
 use Rattle.clocking_ticks.specs.Ticks.{ticking, ticked}
 use Rattle.clocking_word.specs.Word.{drained, ranOf, mixedOf, wordOf}
 use Rattle.clocking_block.specs.Block.{afterWords, ticksOf, wordsOf}
-use Rattle.chip.specs.Clocks.{clocksNo}
+use Rattle.clocks.specs.Clocks.{clocksNo}
 use Rattle.chip.specs.Range.{clocksIn, bytesIn, toneIn, allOrNone, noiseIn, envelopeIn, generatorsIn, gatesIn, voiceIn, coreIn, chipIn}
 use Rattle.calls_making.specs.Making.{madeOf, fresh, withClocks, resetOf, resetCall}
 use Rattle.calls_registers.specs.Stored.{writeRegister, readRegister}
@@ -31,7 +31,8 @@ use Rattle.calls_effects.specs.Effects.{setChannelMute, setDrumSampleOverride}
 use Rattle.calls_words.specs.Blocks.{blockNumber, blocked, blockBuffer, sampled}
 use Rattle.dump_frames.specs.Frame.{frameWrites, frameChip}
 use Rattle.dump_frames.specs.Whole.{placeOf as framePlace, chipBefore, frameWords, wordsIn}
-use Rattle.dump_output.specs.Text.{spelt, linesOf}
+use Rattle.text_put.specs.Text.{spelt}
+use Rattle.dump_output.specs.Words.{linesOf}
 use Rattle.dump_output.specs.Printed.{totalText, printed}
 use Rattle.laws_bench_rules.specs.Setups.{ticks, shape8, drumAlone, resetAfter31}
 use Rattle.laws_bench_rules.specs.Table.{Table}

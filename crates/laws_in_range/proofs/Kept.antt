@@ -20,9 +20,10 @@ use Rattle.chip.specs.declared.Chip.{Chip}
 use Rattle.clocking_word.specs.Word.{drained, ranOf, mixedOf, wordOf}
 use Rattle.clocking_block.specs.Block.{afterOne, afterWords}
 use Rattle.clocking_word.proofs.Stepping.{Stepped, stepped}
-use Rattle.chip.specs.Clocks.{clocksNo, clocksOf}
+use Rattle.clocks.specs.Clocks.{clocksNo}
+use Rattle.chip.specs.Clocks.{clocksOf}
 use Rattle.chip.specs.Range.{chipIn}
-use Rattle.chip.proofs.Verdicts.{Accepted, accepts}
+use Rattle.clocks.proofs.Accepted.{Accepted, accepts}
 use Rattle.chip.proofs.InRange.{InRange, passes, core-runs}
 use Rattle.answers.specs.declared.Answered.{Answered}
 use Rattle.answers.specs.declared.Blocked.{Blocked}

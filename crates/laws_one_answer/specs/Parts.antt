@@ -66,7 +66,7 @@ use Rattle.queue_drain.proofs.drain
 use Rattle.clocking_ticks.proofs.run_ticks as run-ticks
 use Rattle.clocking_word.proofs.word
 use Rattle.clocking_block.proofs.render
-use Rattle.chip.proofs.clocks_no as clocks-no
+use Rattle.clocks.proofs.clocks_no as clocks-no
 use Rattle.chip.proofs.clocks_of as clocks-of
 use Rattle.chip.proofs.in_range as in-range
 use Rattle.answers.proofs.accepted

@@ -14,7 +14,8 @@ use Rattle.queue.specs.Waiting.{waiting}
 use Rattle.queue.proofs.Ring.{length-waiting}
 use Rattle.chip.specs.declared.Chip.{Chip}
 use Rattle.clocking_block.specs.Block.{afterOne, afterWords}
-use Rattle.chip.specs.Clocks.{clocksNo, clocksOf}
+use Rattle.clocks.specs.Clocks.{clocksNo}
+use Rattle.chip.specs.Clocks.{clocksOf}
 use Rattle.chip.proofs.InRange.{InRange, passes}
 use Rattle.answers.specs.declared.Answered.{Answered}
 use Rattle.calls_making.specs.Making.{madeOf, withClocks}

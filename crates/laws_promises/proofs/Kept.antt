@@ -10,7 +10,8 @@ use Rattle.noise.specs.Course.{Agrees}
 use Rattle.queue.specs.Waiting.{waiting}
 use Rattle.queue.proofs.Laws.{waiting-empty, waiting-emptied}
 use Rattle.chip.specs.declared.Chip.{Chip}
-use Rattle.chip.specs.Clocks.{clocksNo, clocksOf}
+use Rattle.clocks.specs.Clocks.{clocksNo}
+use Rattle.chip.specs.Clocks.{clocksOf}
 use Rattle.chip.proofs.InRange.{InRange}
 use Rattle.calls_making.specs.Making.{madeOf, resetOf}
 use Rattle.calls_cycles.specs.Cycles.{flushed}

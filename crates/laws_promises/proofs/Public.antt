@@ -9,7 +9,7 @@ use Rattle.refusals.specs.Numbers.{accepted}
 use Rattle.laws.proofs.Tests.{on-ne}
 use Rattle.channel.specs.declared.Drum.{Drum}
 use Rattle.chip.specs.declared.Chip.{Chip}
-use Rattle.chip.specs.Clocks.{clocksNo}
+use Rattle.clocks.specs.Clocks.{clocksNo}
 use Rattle.answers.specs.declared.Answered.{Answered}
 use Rattle.answers.specs.Answers.{answered}
 use Rattle.calls_making.specs.Making.{fresh, withClocks, resetCall, defaultMaster, defaultRate}

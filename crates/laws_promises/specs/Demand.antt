@@ -22,7 +22,8 @@ use Rattle.noise.specs.Course.{Agrees}
 use Rattle.noise.specs.declared.Noise.{Noise}
 use Rattle.queue.specs.Waiting.{waiting}
 use Rattle.queue.specs.declared.Write.{Write}
-use Rattle.chip.specs.Clocks.{clocksNo, clocksOf}
+use Rattle.clocks.specs.Clocks.{clocksNo}
+use Rattle.chip.specs.Clocks.{clocksOf}
 use Rattle.refusals.specs.Numbers.{accepted, outOfRange}
 use Rattle.laws_promises.specs.History.{Call, reset, flush-pending-writes, answers, after, Entry, ticksIn, appliedIn, Ledger, blank, entered, ledger}
 

@@ -1,6 +1,6 @@
 -- `calls_making::new` meets its contract: the default clocks are accepted, by computation. Assumes nothing.
 use mathlib.Core.Path.{refl, _∙_}
-use Rattle.chip.specs.Clocks.{clocksNo}
+use Rattle.clocks.specs.Clocks.{clocksNo}
 use Rattle.calls_making.specs.Making.{fresh}
 use borrow.Author.Needs.{needs}
 use Rattle.calls_making.proofs.new.Statement.{statement}

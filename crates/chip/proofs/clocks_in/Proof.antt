@@ -1,7 +1,8 @@
 -- `chip::clocks_in` meets its contract. Assumes nothing.
 use mathlib.Core.Path.{sym, _∙_}
 use Rattle.laws.proofs.Tests.{tests}
-use Rattle.chip.proofs.Verdicts.{numbers, accepts}
+use Rattle.clocks.proofs.Accepted.{accepts}
+use Rattle.chip.proofs.Verdicts.{numbers}
 use Rattle.chip.specs.Range.{clocksIn}
 use borrow.Author.Needs.{needs}
 use Rattle.chip.proofs.clocks_in.Statement.{statement}

@@ -1,5 +1,5 @@
 -- `chip::clocks_of` meets its contract: an accepted rate is not 0. Assumes nothing.
-use Rattle.chip.proofs.Verdicts.{accepts}
+use Rattle.clocks.proofs.Accepted.{accepts}
 use borrow.Author.Needs.{needs}
 use Rattle.chip.proofs.clocks_of.Statement.{statement}
 use Rattle.chip.proofs.clocks_of.Tie as tie
