@@ -1,16 +1,18 @@
 -- Each part of a tick keeps the counters and the edges in bounds. Assumes nothing.
 use mathlib.Core.Bool.{Bool, true}
 use mathlib.Core.Path.{_≡_, ap, _∙_}
-use Prim.Native.Nat.{ℕ, zero, suc, _≤_, _<_}
+use Prim.Native.Nat.{ℕ, zero, suc, _+_, _≤_, _<_}
 use native.Mathlib.Omega.{arith}
 use borrow.Author.Tests.{leb-true, ltb-true}
-use lib.Bits.{bitOr, bitXor, or-lt, xor-lt}
+use lib.Bits.{bitOr, or-lt, xor-lt}
 use lib.IntN.{ℤ, pos, negsuc, _+ℤ_, +ℤ-one}
 use lib.Signed.{mag, ltZ}
 use mir.Facts.{toZ-ofZ}
 use mir.Syntax.{w32}
 use mir.Val.{toZ, ofZ}
-use Rattle.laws.proofs.Tests.{by-cond}
+use Rattle.laws.proofs.Tests.{by-cond, by-le}
+use Rattle.tone.specs.declared.Stepped.{Stepped}
+use Rattle.tone.specs.Tone.{toneStep}
 use Rattle.envelope.specs.Envelope.{nextPosition}
 use Rattle.envelope.specs.Range.{PositionInRange}
 use Rattle.tables.specs.Masks.{fiveBits}
@@ -18,9 +20,9 @@ use Rattle.generators.specs.declared.Generators.{Generators}
 use Rattle.generators.specs.Range.{GeneratorsInRange}
 use Rattle.generators.specs.Generators.{edgesOf}
 use Rattle.clocking_generators.specs.declared.Turning.{Turning}
-use Rattle.clocking_generators.specs.Turning.{Held, tones, turningOf, withEnvelope, withNoise}
+use Rattle.clocking_generators.specs.Turning.{Held, withTones, turningOf, withEnvelope, withNoise}
 
-pub held-tones : {t : Turning} (a b c edges : ℕ) → Held t → a ≤ 65535 → b ≤ 65535 → c ≤ 65535 → edges < 32768 → Held (tones a b c edges t)
+pub held-tones : {t : Turning} (a b c edges : ℕ) → Held t → a ≤ 65535 → b ≤ 65535 → c ≤ 65535 → edges < 32768 → Held (withTones a b c edges t)
 held-tones a b c edges h x y z e = record { a = x; b = y; c = z; envelope = h .envelope; noise = h .noise; edges = e; position = h .position }
 
 pub held-envelope : {t : Turning} (counter : ℕ) (position : ℤ) → Held t → counter ≤ 65535 → mag position < 2147483648 → Held (withEnvelope counter position t)
@@ -30,8 +32,10 @@ pub held-noise : {t : Turning} (counter register output : ℕ) (half : Bool) →
 held-noise counter register output half h x = record { a = h .a; b = h .b; c = h .c; envelope = h .envelope; noise = x; edges = h .edges; position = h .position }
 
 -- fifteen bits stay fifteen
-pub flipped-lt : {edges bits : ℕ} → edges < 32768 → bits < 32768 → bitXor edges bits < 32768
-flipped-lt {edges} {bits} e b = xor-lt 15 edges bits e b
+pub step-lt : (bits period counter edges : ℕ) → bits < 32768 → edges < 32768 → toneStep bits period counter edges .edges < 32768
+unfolding toneStep
+step-lt bits period counter edges b e =
+    by-le (λ (s : Stepped). s .edges < 32768) period (counter + 1) (λ _. xor-lt 15 edges bits e b) (λ _. e)
 
 edges-lt : {g : Generators} → GeneratorsInRange g → edgesOf g < 32768
 unfolding edgesOf

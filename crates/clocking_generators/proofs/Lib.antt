@@ -1,4 +1,3 @@
-pub mod Digits
 pub mod Held
 pub mod Parts
 pub mod Shown

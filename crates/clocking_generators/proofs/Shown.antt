@@ -1,32 +1,33 @@
 -- A tick of what stands for the generators is the generators' tick. Assumes nothing.
-use mathlib.Core.Bool.{true, false}
 use mathlib.Core.Path.{_≡_, refl, sym, ap, ap₂, _∙_}
 use Prim.Native.Nat.{ℕ, _+_, _*_, _/_, _%_, _^_, _≤_, _<_, max}
 use native.Mathlib.Nat.{mod-eq-of-lt}
 use native.Mathlib.Omega.{arith}
 use borrow.Author.Tests.{le-leb, lt-leb}
 use lib.Bits.{bitAnd, bitOr, bitXor, and-comm, and-mask, and-high, or-zero-r, or-zero-l, xor-zero-r}
-use Rattle.laws.proofs.Tests.{by-le, by-cond}
+use Rattle.laws.proofs.Tests.{by-le, by-cond, by-order}
 use Rattle.tables.specs.Masks.{fiveBits}
-use Rattle.tone.specs.Tone.{toneTick}
+use Rattle.tone.specs.declared.Stepped.{Stepped}
+use Rattle.tone.specs.Tone.{toneStep, toneTick}
 use Rattle.noise.specs.Noise.{noiseTick}
 use Rattle.envelope.specs.Envelope.{envelopeTick}
 use Rattle.generators.specs.declared.Generators.{Generators}
 use Rattle.generators.specs.Generators.{tick, edgesOf}
 use Rattle.generators.specs.Range.{GeneratorsInRange}
 use Rattle.clocking_generators.specs.declared.Turning.{Turning}
-use Rattle.clocking_generators.specs.Turning.{Held, aTurned, bTurned, cTurned, envelopeTurned, noiseTurned, shown, turned, turningOf}
-use Rattle.clocking_generators.proofs.Digits.{and-xor, and-or}
+use Rattle.clocking_generators.specs.Turning.{Held, tonesTurned, envelopeTurned, noiseTurned, shown, turned, turningOf}
+use Rattle.laws.proofs.Digits.{and-xor, and-or}
 
 -- one part of a tick of the generators
-abbrev afterA : Generators → Generators
-afterA g = record { a = toneTick (fiveBits 0) (g .a); b = g .b; c = g .c; noise = g .noise; envelope = g .envelope }
-
-abbrev afterB : Generators → Generators
-afterB g = record { a = g .a; b = toneTick (fiveBits 1) (g .b); c = g .c; noise = g .noise; envelope = g .envelope }
-
-abbrev afterC : Generators → Generators
-afterC g = record { a = g .a; b = g .b; c = toneTick (fiveBits 2) (g .c); noise = g .noise; envelope = g .envelope }
+abbrev afterTones : Generators → Generators
+afterTones g =
+    record {
+      a = toneTick (fiveBits 0) (g .a);
+      b = toneTick (fiveBits 1) (g .b);
+      c = toneTick (fiveBits 2) (g .c);
+      noise = g .noise;
+      envelope = g .envelope;
+    }
 
 abbrev afterEnvelope : Generators → Generators
 afterEnvelope g = record { a = g .a; b = g .b; c = g .c; noise = g .noise; envelope = envelopeTick (g .envelope) }
@@ -34,33 +35,38 @@ afterEnvelope g = record { a = g .a; b = g .b; c = g .c; noise = g .noise; envel
 abbrev afterNoise : Generators → Generators
 afterNoise g = record { a = g .a; b = g .b; c = g .c; noise = noiseTick (g .noise); envelope = g .envelope }
 
--- a channel's flip is seen by its own mask, and by no other
-own : (e bits : ℕ) → bitAnd bits bits ≡ bits → bitAnd (bitXor e bits) bits ≡ bitXor (bitAnd e bits) bits
-own e bits h = and-xor e bits bits ∙ ap (bitXor (bitAnd e bits)) h
+-- a channel's step, of the edges of all three, is seen by its own mask as a step of its own edges, and by no other
+own : (bits period counter e : ℕ) → bitAnd bits bits ≡ bits
+    → toneStep bits period counter (bitAnd e bits)
+    ≡ record { counter = toneStep bits period counter e .counter; edges = bitAnd (toneStep bits period counter e .edges) bits }
+unfolding toneStep
+own bits period counter e h =
+    by-order period (counter + 1) (λ l. rw (le-leb period (counter + 1) l, and-xor e bits bits, h)) (λ l. rw (lt-leb period (counter + 1) l))
 
-other : (e bits mask : ℕ) → bitAnd bits mask ≡ 0 → bitAnd (bitXor e bits) mask ≡ bitAnd e mask
-other e bits mask h = and-xor e bits mask ∙ ap (bitXor (bitAnd e mask)) h ∙ xor-zero-r (bitAnd e mask)
+other : (bits mask period counter e : ℕ) → bitAnd bits mask ≡ 0 → bitAnd (toneStep bits period counter e .edges) mask ≡ bitAnd e mask
+unfolding toneStep
+other bits mask period counter e h =
+    by-le (λ (s : Stepped). bitAnd (s .edges) mask ≡ bitAnd e mask) period (counter + 1)
+    (λ _. and-xor e bits mask ∙ ap (bitXor (bitAnd e mask)) h ∙ xor-zero-r (bitAnd e mask))
+    (λ _. refl)
 
-shown-a : (t : Turning) → shown (aTurned t) ≡ afterA (shown t)
-unfolding aTurned shown toneTick
-shown-a t =
-    by-le (λ (z : Turning). shown z ≡ afterA (shown t)) (t .rest .a .period) (t .a + 1)
-    (λ h. rw (le-leb _ _ h, own (t .edges) (fiveBits 0) refl, other (t .edges) (fiveBits 0) (fiveBits 1) refl, other (t .edges) (fiveBits 0) (fiveBits 2) refl))
-    (λ h. rw (lt-leb _ _ h))
-
-shown-b : (t : Turning) → shown (bTurned t) ≡ afterB (shown t)
-unfolding bTurned shown toneTick
-shown-b t =
-    by-le (λ (z : Turning). shown z ≡ afterB (shown t)) (t .rest .b .period) (t .b + 1)
-    (λ h. rw (le-leb _ _ h, own (t .edges) (fiveBits 1) refl, other (t .edges) (fiveBits 1) (fiveBits 0) refl, other (t .edges) (fiveBits 1) (fiveBits 2) refl))
-    (λ h. rw (lt-leb _ _ h))
-
-shown-c : (t : Turning) → shown (cTurned t) ≡ afterC (shown t)
-unfolding cTurned shown toneTick
-shown-c t =
-    by-le (λ (z : Turning). shown z ≡ afterC (shown t)) (t .rest .c .period) (t .c + 1)
-    (λ h. rw (le-leb _ _ h, own (t .edges) (fiveBits 2) refl, other (t .edges) (fiveBits 2) (fiveBits 0) refl, other (t .edges) (fiveBits 2) (fiveBits 1) refl))
-    (λ h. rw (lt-leb _ _ h))
+shown-tones : (t : Turning) → shown (tonesTurned t) ≡ afterTones (shown t)
+unfolding tonesTurned shown toneTick
+shown-tones t =
+    let p = t .rest in
+    let a = toneStep (fiveBits 0) (p .a .period) (t .a) (t .edges) in
+    let b = toneStep (fiveBits 1) (p .b .period) (t .b) (a .edges) in
+    rw (
+      own (fiveBits 0) (p .a .period) (t .a) (t .edges) refl,
+      ← other (fiveBits 0) (fiveBits 1) (p .a .period) (t .a) (t .edges) refl,
+      own (fiveBits 1) (p .b .period) (t .b) (a .edges) refl,
+      ← other (fiveBits 0) (fiveBits 2) (p .a .period) (t .a) (t .edges) refl,
+      ← other (fiveBits 1) (fiveBits 2) (p .b .period) (t .b) (a .edges) refl,
+      own (fiveBits 2) (p .c .period) (t .c) (b .edges) refl,
+      other (fiveBits 2) (fiveBits 0) (p .c .period) (t .c) (b .edges) refl,
+      other (fiveBits 2) (fiveBits 1) (p .c .period) (t .c) (b .edges) refl,
+      other (fiveBits 1) (fiveBits 0) (p .b .period) (t .b) (a .edges) refl,
+    )
 
 shown-envelope : (t : Turning) → shown (envelopeTurned t) ≡ afterEnvelope (shown t)
 unfolding envelopeTurned shown envelopeTick
@@ -84,7 +90,7 @@ unfolding turned tick
 shown-tick t =
     shown-noise _
     ∙ ap afterNoise (shown-envelope _
-    ∙ ap afterEnvelope (shown-c _ ∙ ap afterC (shown-b _ ∙ ap afterB (shown-a t))))
+    ∙ ap afterEnvelope (shown-tones t))
 
 -- the edges side by side are the word
 pub shown-edges : (t : Turning) → t .edges < 32768 → edgesOf (shown t) ≡ t .edges

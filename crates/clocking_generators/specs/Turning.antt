@@ -2,12 +2,13 @@
 -- page. Assumes nothing.
 use mathlib.Core.Bool.{Bool, true, false, cond}
 use Prim.Native.Nat.{ℕ, _+_, _≤_, _<_, max}
-use lib.Bits.{bitAnd, bitXor}
+use lib.Bits.{bitAnd}
 use lib.Dec.{leb}
 use lib.IntN.{ℤ}
 use lib.Signed.{mag}
 use Rattle.tables.specs.Masks.{fiveBits}
 use Rattle.tone.specs.declared.Tone.{Tone}
+use Rattle.tone.specs.Tone.{toneStep}
 use Rattle.noise.specs.declared.Noise.{Noise}
 use Rattle.noise.specs.Noise.{registerStep, outputBy}
 use Rattle.envelope.specs.declared.Envelope.{Envelope}
@@ -63,8 +64,8 @@ pub record Held (t : Turning) : Type 0 where
   pub position : mag (t .position) < 2147483648
 
 -- One part changed.
-abbrev pub tones : ℕ → ℕ → ℕ → ℕ → Turning → Turning
-tones a b c edges t =
+abbrev pub withTones : ℕ → ℕ → ℕ → ℕ → Turning → Turning
+withTones a b c edges t =
     record {
       rest = t .rest;
       a = a;
@@ -112,20 +113,12 @@ withNoise counter register output half t =
     }
 
 -- A tick of each part, as of the generators that it stands for.
-unfoldable pub aTurned : Turning → Turning
-aTurned t =
-    cond (leb (t .rest .a .period) (t .a + 1)) (tones 0 (t .b) (t .c) (bitXor (t .edges) (fiveBits 0)) t)
-    (tones (t .a + 1) (t .b) (t .c) (t .edges) t)
-
-unfoldable pub bTurned : Turning → Turning
-bTurned t =
-    cond (leb (t .rest .b .period) (t .b + 1)) (tones (t .a) 0 (t .c) (bitXor (t .edges) (fiveBits 1)) t)
-    (tones (t .a) (t .b + 1) (t .c) (t .edges) t)
-
-unfoldable pub cTurned : Turning → Turning
-cTurned t =
-    cond (leb (t .rest .c .period) (t .c + 1)) (tones (t .a) (t .b) 0 (bitXor (t .edges) (fiveBits 2)) t)
-    (tones (t .a) (t .b) (t .c + 1) (t .edges) t)
+unfoldable pub tonesTurned : Turning → Turning
+tonesTurned t =
+    let a = toneStep (fiveBits 0) (t .rest .a .period) (t .a) (t .edges) in
+    let b = toneStep (fiveBits 1) (t .rest .b .period) (t .b) (a .edges) in
+    let c = toneStep (fiveBits 2) (t .rest .c .period) (t .c) (b .edges) in
+    withTones (a .counter) (b .counter) (c .counter) (c .edges) t
 
 unfoldable pub envelopeTurned : Turning → Turning
 envelopeTurned t =
@@ -140,4 +133,4 @@ noiseTurned t =
     (withNoise (t .noise + 1) (t .register) (t .output) true t))
 
 unfoldable pub turned : Turning → Turning
-turned t = noiseTurned (envelopeTurned (cTurned (bTurned (aTurned t))))
+turned t = noiseTurned (envelopeTurned (tonesTurned t))

@@ -2,7 +2,7 @@
 // stays in the machine's registers. It means generators (`shown`), and its tick is theirs (`shown-tick` of proofs/Shown.antt).
 ghost use mathlib.Core.Path.{_≡_};
 ghost use Rattle.generators.specs.Range.{GeneratorsInRange};
-ghost use Rattle.clocking_generators.specs.Turning.{Held, aTurned, bTurned, cTurned, envelopeTurned, noiseTurned, shown, turned, turningOf};
+ghost use Rattle.clocking_generators.specs.Turning.{Held, tonesTurned, envelopeTurned, noiseTurned, shown, turned, turningOf};
 use generators::Generators;
 use tone::BITS_A;
 use tone::BITS_B;
@@ -47,7 +47,7 @@ impl Turning {
         requires { ⌜ Held self ⌝ }
         ensures { λ r. ⌜ (r ≡ turned self) × Held r ⌝ }
     {
-        self.turn_a().turn_b().turn_c().turn_envelope().turn_noise()
+        self.turn_tones().turn_envelope().turn_noise()
     }
 
     pub fn generators(self) -> Generators
@@ -81,51 +81,19 @@ impl Turning {
         }
     }
 
-    fn turn_a(self) -> Turning
+    fn turn_tones(self) -> Turning
         requires { ⌜ Held self ⌝ }
-        ensures turned { λ r. ⌜ r ≡ aTurned self ⌝ }
+        ensures turned { λ r. ⌜ r ≡ tonesTurned self ⌝ }
         ensures held { λ r. ⌜ Held r ⌝ }
     {
+        let a = tone::tone_step(self.a, self.rest.a.period, self.edges, BITS_A);
+        let b = tone::tone_step(self.b, self.rest.b.period, a.edges, BITS_B);
+        let c = tone::tone_step(self.c, self.rest.c.period, b.edges, BITS_C);
         let mut next = self;
-        let count = self.a + 1;
-        if count < self.rest.a.period as u32 {
-            next.a = count;
-        } else {
-            next.a = 0;
-            next.edges = self.edges ^ BITS_A;
-        }
-        next
-    }
-
-    fn turn_b(self) -> Turning
-        requires { ⌜ Held self ⌝ }
-        ensures turned { λ r. ⌜ r ≡ bTurned self ⌝ }
-        ensures held { λ r. ⌜ Held r ⌝ }
-    {
-        let mut next = self;
-        let count = self.b + 1;
-        if count < self.rest.b.period as u32 {
-            next.b = count;
-        } else {
-            next.b = 0;
-            next.edges = self.edges ^ BITS_B;
-        }
-        next
-    }
-
-    fn turn_c(self) -> Turning
-        requires { ⌜ Held self ⌝ }
-        ensures turned { λ r. ⌜ r ≡ cTurned self ⌝ }
-        ensures held { λ r. ⌜ Held r ⌝ }
-    {
-        let mut next = self;
-        let count = self.c + 1;
-        if count < self.rest.c.period as u32 {
-            next.c = count;
-        } else {
-            next.c = 0;
-            next.edges = self.edges ^ BITS_C;
-        }
+        next.a = a.counter;
+        next.b = b.counter;
+        next.c = c.counter;
+        next.edges = c.edges;
         next
     }
 

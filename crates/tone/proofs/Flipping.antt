@@ -9,8 +9,9 @@ use lib.Dec.{lit<}
 use lib.Pow.{shl-lt}
 use Rattle.laws.proofs.Tests.{by-cond, by-le}
 use Rattle.tables.specs.Masks.{fiveBits}
+use Rattle.tone.specs.declared.Stepped.{Stepped}
 use Rattle.tone.specs.declared.Tone.{Tone}
-use Rattle.tone.specs.Tone.{toneReset, toneSet, toneReleased, toneTick}
+use Rattle.tone.specs.Tone.{toneReset, toneSet, toneReleased, toneStep, toneTick, withStep}
 use Rattle.tone.specs.Range.{ToneInRange}
 
 -- a channel's five bits lie at its place
@@ -36,8 +37,8 @@ module _ (channel : ℕ) {t : Tone} (h : ToneInRange channel t) where
   same-edges counter period pending k = record { period = k; low = h .low; high = h .high }
 
   -- a flip of the five bits leaves the places below them clear, and stays below those above
-  flipped-in : (pending : Bool) → ToneInRange channel (record { counter = 0; period = t .period; edges = bitXor (t .edges) (fiveBits channel); pending = pending })
-  flipped-in pending =
+  flipped-in : (counter : ℕ) (pending : Bool) → ToneInRange channel (record { counter = counter; period = t .period; edges = bitXor (t .edges) (fiveBits channel); pending = pending })
+  flipped-in counter pending =
       record {
         period = h .period;
         low = xor-mod (t .edges) (fiveBits channel) (5 * channel) ∙ ap₂ bitXor (h .low) (five-low channel);
@@ -45,12 +46,14 @@ module _ (channel : ℕ) {t : Tone} (h : ToneInRange channel t) where
       }
 
   pub tone-tick-in : ToneInRange channel (toneTick (fiveBits channel) t)
-  unfolding toneTick
-  tone-tick-in = by-le (ToneInRange channel) (t .period) (t .counter + 1) (λ e. flipped-in _) (λ e. same-edges _ _ _ (h .period))
+  unfolding toneTick toneStep
+  tone-tick-in =
+      by-le (λ (s : Stepped). ToneInRange channel (withStep s t)) (t .period) (t .counter + 1)
+      (λ e. flipped-in _ _) (λ e. same-edges _ _ _ (h .period))
 
   pub tone-released-in : ToneInRange channel (toneReleased (fiveBits channel) t)
   unfolding toneReleased
-  tone-released-in = by-cond (ToneInRange channel) (t .pending) _ _ (λ e. flipped-in _) (λ e. h)
+  tone-released-in = by-cond (ToneInRange channel) (t .pending) _ _ (λ e. flipped-in _ _) (λ e. h)
 
   pub tone-set-in : (period : ℕ) (irq : Bool) → period ≤ 4095 → ToneInRange channel (toneSet period irq t)
   unfolding toneSet

@@ -3,6 +3,7 @@ use mathlib.Core.Bool.{Bool, true, false, cond}
 use Prim.Native.Nat.{ℕ, _+_}
 use lib.Bits.{bitXor}
 use lib.Dec.{leb}
+use Rattle.tone.specs.declared.Stepped.{Stepped}
 use Rattle.tone.specs.declared.Tone.{Tone}
 
 -- Reset sets tone counters and periods to 0, clears pending flips; the edges are given.
@@ -19,22 +20,23 @@ marked t = record { counter = t .counter; period = t .period; edges = t .edges; 
 unfoldable pub toneSet : ℕ → Bool → Tone → Tone
 toneSet period irq t = cond (leb period 1) (cond irq (marked (periodSet period t)) (periodSet period t)) (periodSet period t)
 
-abbrev pub flipped : ℕ → Tone → Tone
-flipped bits t = record { counter = 0; period = t .period; edges = bitXor (t .edges) bits; pending = t .pending }
-
-abbrev pub unmarked : Tone → Tone
-unmarked t = record { counter = t .counter; period = t .period; edges = t .edges; pending = false }
+abbrev pub released : ℕ → Tone → Tone
+released bits t = record { counter = 0; period = t .period; edges = bitXor (t .edges) bits; pending = false }
 
 -- A call setting the IRQ flag off flips each pending channel once, clears its counter, and unmarks it.
 unfoldable pub toneReleased : ℕ → Tone → Tone
-toneReleased bits t = cond (t .pending) (unmarked (flipped bits t)) t
-
-abbrev pub counted : Tone → Tone
-counted t = record { counter = t .counter + 1; period = t .period; edges = t .edges; pending = t .pending }
+toneReleased bits t = cond (t .pending) (released bits t) t
 
 -- Tone: counter plus 1; if it reaches the period, the five edge bits flip and the counter is 0.
+unfoldable pub toneStep : ℕ → ℕ → ℕ → ℕ → Stepped
+toneStep bits period counter edges =
+    cond (leb period (counter + 1)) (record { counter = 0; edges = bitXor edges bits }) (record { counter = counter + 1; edges = edges })
+
+abbrev pub withStep : Stepped → Tone → Tone
+withStep s t = record { counter = s .counter; period = t .period; edges = s .edges; pending = t .pending }
+
 unfoldable pub toneTick : ℕ → Tone → Tone
-toneTick bits t = cond (leb (t .period) (t .counter + 1)) (flipped bits t) (counted t)
+toneTick bits t = withStep (toneStep bits (t .period) (t .counter) (t .edges)) t
 
 -- A channel whose tone period is at most 1 is halved.
 abbrev pub isHalved : Tone → Bool

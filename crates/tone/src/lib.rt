@@ -1,6 +1,7 @@
 // The tone of one channel. 01, "Registers and ports" and "One tick, one word"; the crate's generators.rs.
 ghost use mathlib.Core.Path.{_≡_};
-ghost use Rattle.tone.specs.Tone.{toneTick, toneReset, toneSet, toneReleased, isHalved};
+ghost use Prim.Native.Nat.{_≤_};
+ghost use Rattle.tone.specs.Tone.{toneStep, toneTick, toneReset, toneSet, toneReleased, isHalved};
 
 // `edges` are five equal bits at the channel's place; `pending` marks a flip that waits for the IRQ's end.
 pub struct Tone {
@@ -8,6 +9,12 @@ pub struct Tone {
     pub period: u16,
     pub edges: u32,
     pub pending: bool,
+}
+
+// What one tick changes of a tone; a tick's counter is of 32 bits, so that it stays in a register of the machine.
+pub struct Stepped {
+    pub counter: u32,
+    pub edges: u32,
 }
 
 // The five edge bits of each channel.
@@ -54,14 +61,10 @@ impl Tone {
     pub fn tick(self, bits: u32) -> Tone
         ensures { λ r. ⌜ r ≡ toneTick bits self ⌝ }
     {
+        let step = tone_step(self.counter as u32, self.period, self.edges, bits);
         let mut next = self;
-        let count = self.counter as u32 + 1;
-        if count < self.period as u32 {
-            next.counter = count as u16;
-        } else {
-            next.edges = self.edges ^ bits;
-            next.counter = 0;
-        }
+        next.counter = step.counter as u16;
+        next.edges = step.edges;
         next
     }
 
@@ -73,6 +76,25 @@ impl Tone {
             period: 0,
             edges,
             pending: false,
+        }
+    }
+}
+
+// `Tone::tick` and the ticks of a word (crates/clocking_generators) step by this.
+pub fn tone_step(counter: u32, period: u16, edges: u32, bits: u32) -> Stepped
+    requires { ⌜ counter ≤ 65535 ⌝ }
+    ensures { λ r. ⌜ (r ≡ toneStep bits period counter edges) × (r .counter ≤ 65535) ⌝ }
+{
+    let count = counter + 1;
+    if count < period as u32 {
+        Stepped {
+            counter: count,
+            edges,
+        }
+    } else {
+        Stepped {
+            counter: 0,
+            edges: edges ^ bits,
         }
     }
 }
