@@ -3,6 +3,7 @@
 mod acts;
 mod draw;
 mod dumps;
+mod fields;
 mod moods;
 mod other;
 mod parting;
@@ -10,11 +11,13 @@ mod players;
 mod random;
 mod scripts;
 mod shrink;
+mod tally;
 
 use players::Players;
 use random::Random;
 use scripts::{Scripts, draw_batch};
 use std::time::Duration;
+use tally::Tally;
 
 /// Calls handed to one process of the other side, at least.
 const BATCH: u64 = 2_000;
@@ -23,14 +26,15 @@ const CALLS_A_DUMP: u64 = 100;
 /// How long a shrinking may take.
 const SHRINKING: Duration = Duration::from_secs(10);
 
-const USAGE: &str = "usage: compare COUNT SEED [--replay PATH] [--player PATH] [--first] [--script]
+const USAGE: &str = "usage: compare COUNT SEED [--replay PATH] [--player PATH] [--first] [--script] [--count]
 
 Draws scripts of COUNT calls in all, and a dump for each 100 calls, and compares the oracle with
 --replay PATH   a program that reads a script, and
 --player PATH   a program that reads a dump.
 With neither, the oracle's own programs stand in, which tests only the comparing.
 --first         end at the first difference
---script        print the scripts that would be run, and run nothing";
+--script        print the scripts that would be run, and run nothing
+--count         print what would be drawn, counted, and run the oracle alone";
 
 struct Options {
     count: u64,
@@ -39,6 +43,7 @@ struct Options {
     player: Option<String>,
     first: bool,
     script: bool,
+    count_drawn: bool,
 }
 
 fn main() {
@@ -46,9 +51,10 @@ fn main() {
         eprintln!("{USAGE}");
         std::process::exit(2);
     };
-    match options.script {
-        true => print_scripts(&options),
-        false => compare(&options),
+    match &options {
+        Options { script: true, .. } => print_scripts(&options),
+        Options { count_drawn: true, .. } => print_counts(&options),
+        _ => compare(&options),
     }
 }
 
@@ -56,13 +62,14 @@ fn options() -> Option<Options> {
     let mut words = std::env::args().skip(1);
     let count = words.next()?.parse().ok()?;
     let seed = words.next()?.parse().ok()?;
-    let mut options = Options { count, seed, replay: None, player: None, first: false, script: false };
+    let mut options = Options { count, seed, replay: None, player: None, first: false, script: false, count_drawn: false };
     while let Some(word) = words.next() {
         match word.as_str() {
             "--replay" => options.replay = Some(words.next()?),
             "--player" => options.player = Some(words.next()?),
             "--first" => options.first = true,
             "--script" => options.script = true,
+            "--count" => options.count_drawn = true,
             _ => return None,
         }
     }
@@ -84,11 +91,22 @@ fn print_scripts(options: &Options) {
     let mut calls = 0;
     while calls < options.count {
         println!("default");
-        for drawn in draw_batch(&mut random, BATCH.min(options.count - calls)) {
+        for drawn in draw_batch(&mut random, &mut Tally::default(), BATCH.min(options.count - calls)) {
             print!("{}", drawn.script);
             calls += drawn.calls;
         }
     }
+}
+
+fn print_counts(options: &Options) {
+    let mut random = Random(options.seed);
+    let mut tally = Tally::default();
+    let mut calls = 0;
+    while calls < options.count {
+        let batch = draw_batch(&mut random, &mut tally, BATCH.min(options.count - calls));
+        calls += batch.iter().map(|drawn| drawn.calls).sum::<u64>();
+    }
+    tally.print();
 }
 
 fn compare(options: &Options) {
@@ -97,13 +115,14 @@ fn compare(options: &Options) {
     let mut for_dumps = Random(!options.seed);
     let mut scripts = Scripts::default();
     let mut players = Players::default();
+    let mut tally = Tally::default();
     let mut asked = 0;
     let differ = |scripts: &Scripts, players: &Players| scripts.differences + players.differences > 0;
     while asked < options.count && !(options.first && differ(&scripts, &players)) {
         let share = BATCH.min(options.count - asked);
         asked += share;
         if let Some(path) = &options.replay {
-            let batch = draw_batch(&mut for_scripts, asked.saturating_sub(scripts.calls));
+            let batch = draw_batch(&mut for_scripts, &mut tally, asked.saturating_sub(scripts.calls));
             scripts.compare(path, &batch, options.first);
         }
         if let Some(path) = &options.player {

@@ -6,6 +6,7 @@ use crate::other;
 use crate::parting::{Parting, parting};
 use crate::random::Random;
 use crate::shrink::{shortest, smallest};
+use crate::tally::Tally;
 use oracle::refusal::{self, ACCEPTED};
 use oracle::script::Bench;
 use std::time::Instant;
@@ -23,11 +24,11 @@ pub struct Scripts {
 }
 
 /// Scripts of so many calls or some more. The first begins on the default chip, each other makes its own.
-pub fn draw_batch(random: &mut Random, wanted: u64) -> Vec<Drawn> {
+pub fn draw_batch(random: &mut Random, tally: &mut Tally, wanted: u64) -> Vec<Drawn> {
     let mut batch = Vec::new();
     let mut calls = 0;
     while calls < wanted {
-        let drawn = draw::script(random, batch.is_empty());
+        let drawn = draw::script(random, tally, batch.is_empty());
         calls += drawn.calls;
         batch.push(drawn);
     }
@@ -87,6 +88,9 @@ fn parts(path: &str, lines: &[String], limit: u64) -> Option<(Parting, u64)> {
 
 /// Ticks that a call would run on this chip, or a few more.
 fn ticks_asked(bench: &Bench, line: &str) -> u64 {
+    if !bench.in_range() {
+        return 0;
+    }
     let (internal, rate, cycles) = bench.chip.clocks();
     let length = match line.strip_prefix("block ") {
         Some(length) => length.parse().unwrap_or(0),
