@@ -23,6 +23,10 @@ fn check(script: &str, mut unsaid: impl FnMut(&str, &str, &str)) -> usize {
             before = state.to_string();
             printed.clear();
             assert!(bench.line(line, &mut printed), "line {}", place + 1);
+            if bench.ring.fits() {
+                let queue: Vec<_> = (0..).map_while(|place| bench.chip.waiting(place)).collect();
+                assert_eq!(bench.ring.all(), queue, "line {}: the ring and the crate's queue", place + 1);
+            }
             if !lines.get(place + 1).is_some_and(|next| next.starts_with("# answer: ")) {
                 unsaid(line, &before, &printed);
             }
@@ -35,6 +39,46 @@ fn check(script: &str, mut unsaid: impl FnMut(&str, &str, &str)) -> usize {
 fn cases_of_01() {
     let checked = check(include_str!("../cases.script"), |_, _, _| ());
     assert!(checked > 150, "{checked}");
+}
+
+/// Drawn scripts with nothing said under them: what is checked is that the ring follows the crate's queue.
+#[test]
+fn ring_of_the_kept_sample() {
+    assert_eq!(check(include_str!("../sample-2000-1.script"), |_, _, _| ()), 0);
+}
+
+#[test]
+fn forms_of_set() {
+    for (line, good) in [
+        ("set select 255", true),
+        ("set select 256", false),
+        ("set select 01", false),
+        ("set select -1", false),
+        ("set select", false),
+        ("set select 1 ", false),
+        ("set R13 255", true),
+        ("set R14 0", false),
+        ("set R01 0", false),
+        ("set a_period 0", false),
+        ("set C_period 65535", true),
+        ("set C_period 65536", false),
+        ("set noise_period 256", false),
+        ("set noise_output 4294967295", true),
+        ("set noise_output 4294967296", false),
+        ("set envelope_position -2147483648", true),
+        ("set envelope_position -2147483649", false),
+        ("set envelope_position 2147483647", true),
+        ("set envelope_position 2147483648", false),
+        ("set envelope_position -0", false),
+        ("set envelope_position -01", false),
+        ("set envelope_position --1", false),
+        ("set envelope_position -", false),
+        ("set head 18446744073709551615", true),
+        ("set head 18446744073709551616", false),
+        ("set irq 1", false),
+    ] {
+        assert_eq!(Bench::default().line(line, &mut String::new()), good, "{line}");
+    }
 }
 
 /// What `range.script` says of itself: a call with no answer under it answers 22 and leaves the state.

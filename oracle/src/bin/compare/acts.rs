@@ -1,10 +1,7 @@
 //! The calls that a script is made of, with arguments that aim at 01's limits.
 
 use crate::draw::Draw;
-use oracle::refusal::{BLOCK_MAX, QUEUE_MAX};
-
-/// A high envelope is climbed by words of no more ticks than this.
-const CLIMBED: u64 = 2_000;
+use oracle::refusal::{self, ACCEPTED, BLOCK_MAX, QUEUE_MAX};
 
 impl Draw<'_> {
     // ---- registers ----
@@ -122,7 +119,7 @@ impl Draw<'_> {
     /// A full queue of which each word takes a few writes, so that the ring turns and stays full.
     pub fn turn(&mut self) {
         let (_, _, cycles) = self.bench.chip.clocks();
-        let (each, turns) = (self.random.within(1, 4), self.random.within(1, 128));
+        let (each, turns) = (self.random.pick(&[1, 1, 2, 4]), self.random.within(1, 256));
         let far = (QUEUE_MAX as u64 + turns).saturating_mul(cycles);
         if self.bench.chip.start().checked_add(far).is_none() || self.ticks_a_word() * turns > self.budget {
             return;
@@ -275,24 +272,22 @@ impl Draw<'_> {
         }
     }
 
-    /// An envelope whose counter climbs high: up to its step, and then by single words.
+    /// An envelope whose counter climbs high, up to its step or nearly. It has ticks of its own.
     pub fn climb(&mut self) {
-        let (low, high) = (self.random.byte(), self.random.pick(&[255, 255, 254, 128, 64]));
+        let any = self.random.byte();
+        let (low, high) = (self.random.pick(&[255, 254, any]), self.random.pick(&[255, 255, 254, 128, 64]));
         let ticks = self.ticks_a_word();
-        let period = low as u64 + 256 * high;
-        if ticks > CLIMBED || self.budget < 2 * period {
+        let period = low as u64 + 256 * high as u64;
+        let words = (period / ticks).saturating_sub(self.random.below(3));
+        let (_, _, cycles) = self.bench.chip.clocks();
+        if words == 0 || refusal::of_block(words as usize, self.bench.chip.start(), cycles) != ACCEPTED {
             return;
         }
-        let low = self.random.pick(&[255, 254, low]);
+        self.budget += period;
         self.call(format!("write 11 {low}"));
         self.call(format!("write 12 {high}"));
         self.call("trigger".into());
-        let mut words = (low as u64 + 256 * high) / ticks;
-        while words > 0 {
-            let length = words.min(BLOCK_MAX as u64);
-            self.call(format!("block {length}"));
-            words -= length;
-        }
+        self.call(format!("block {words}"));
     }
 
     // ---- the rest ----

@@ -50,7 +50,7 @@ pub const MOODS: [(u64, Mood); 9] = [
     (6, mood(4, &[
         (9, Register), (2, Low), (2, Shape), (1, Load), (6, Data), (2, Now), (2, Cycle), (2, Sync), (1, End),
         (1, Flush), (3, Irq), (1, Trigger), (2, Mute), (3, Drum), (6, Word), (9, Block), (5, Read), (1, Reset),
-        (1, New), (1, Refused), (1, Lent), (1, Set),
+        (1, New), (1, Refused), (1, Lent), (2, Set),
     ])),
     // Tones and noise.
     (5, mood(4, &[
@@ -62,8 +62,8 @@ pub const MOODS: [(u64, Mood); 9] = [
         (1, Irq),
     ])),
     // A queue held full, long enough for its room to be used again.
-    (1, mood(500, &[
-        (3, Fill), (2, Turn), (24, Data), (3, Cycle), (1, Sync), (1, Flush), (12, Word), (2, Block), (6, Read), (1, Reset),
+    (2, mood(500, &[
+        (2, Fill), (2, Turn), (24, Data), (3, Cycle), (1, Sync), (1, Flush), (12, Word), (2, Block), (6, Read), (1, Reset),
     ])),
     // Periods 0 and 1 inside and outside the IRQ.
     (4, mood(4, &[
@@ -84,8 +84,8 @@ pub const MOODS: [(u64, Mood); 9] = [
         (1, Refused),
     ])),
     // Records that no call leads to.
-    (3, mood(4, &[
-        (12, Set), (4, Register), (2, Low), (2, Shape), (4, Data), (1, Fill), (2, Now), (2, Cycle), (1, Sync), (1, Flush),
+    (5, mood(4, &[
+        (24, Set), (4, Register), (2, Low), (2, Shape), (4, Data), (1, Fill), (2, Now), (2, Cycle), (1, Sync), (1, Flush),
         (2, Irq), (1, Trigger), (1, Mute), (1, Drum), (6, Word), (6, Block), (3, Read), (1, Reset), (1, Lent),
     ])),
 ];
