@@ -119,7 +119,7 @@ impl Draw<'_> {
     /// A full queue of which each word takes a few writes, so that the ring turns and stays full.
     pub fn turn(&mut self) {
         let (_, _, cycles) = self.bench.chip.clocks();
-        let (each, turns) = (self.random.pick(&[1, 1, 2, 4]), self.random.within(1, 256));
+        let (each, turns) = (self.random.pick(&[1, 1, 1, 2, 4]), self.random.within(1, 256));
         let far = (QUEUE_MAX as u64 + turns).saturating_mul(cycles);
         if self.bench.chip.start().checked_add(far).is_none() || self.ticks_a_word() * turns > self.budget {
             return;
@@ -133,13 +133,15 @@ impl Draw<'_> {
         for _ in 0..turns {
             self.call("word".into());
             end += cycles;
-            self.due(end, each);
+            let room = QUEUE_MAX - self.bench.chip.pending_write_count();
+            self.due(end, room as u64);
         }
     }
 
-    /// Writes that are due at a word's end, one more than fits now and then.
+    /// Writes stamped at a word's end, one before or one after it; one more than fits now and then.
     fn due(&mut self, end: u64, writes: u64) {
-        self.call(format!("cycle {end}"));
+        let stamp = self.random.pick(&[end, end, end - 1, end.saturating_add(1)]);
+        self.call(format!("cycle {stamp}"));
         let more = self.random.one_in(16) as u64;
         for _ in 0..writes + more {
             let port = self.writing();

@@ -15,9 +15,8 @@ mod tally;
 
 use players::Players;
 use random::Random;
-use scripts::{Scripts, draw_batch};
+use scripts::{Batches, Scripts};
 use std::time::Duration;
-use tally::Tally;
 
 /// Calls handed to one process of the other side, at least.
 const BATCH: u64 = 2_000;
@@ -87,43 +86,34 @@ fn beside(name: &str) -> String {
 }
 
 fn print_scripts(options: &Options) {
-    let mut random = Random(options.seed);
-    let mut calls = 0;
-    while calls < options.count {
+    let mut batches = Batches::new(options);
+    while let Some(batch) = batches.next() {
         println!("default");
-        for drawn in draw_batch(&mut random, &mut Tally::default(), BATCH.min(options.count - calls)) {
-            print!("{}", drawn.script);
-            calls += drawn.calls;
-        }
+        batch.iter().for_each(|drawn| print!("{}", drawn.script));
     }
 }
 
 fn print_counts(options: &Options) {
-    let mut random = Random(options.seed);
-    let mut tally = Tally::default();
-    let mut calls = 0;
-    while calls < options.count {
-        let batch = draw_batch(&mut random, &mut tally, BATCH.min(options.count - calls));
-        calls += batch.iter().map(|drawn| drawn.calls).sum::<u64>();
-    }
-    tally.print();
+    let mut batches = Batches::new(options);
+    while batches.next().is_some() {}
+    batches.tally.print();
 }
 
 fn compare(options: &Options) {
     // Apart, so that the same scripts are drawn whether dumps are or not.
-    let mut for_scripts = Random(options.seed);
+    let mut batches = Batches::new(options);
     let mut for_dumps = Random(!options.seed);
     let mut scripts = Scripts::default();
     let mut players = Players::default();
-    let mut tally = Tally::default();
     let mut asked = 0;
     let differ = |scripts: &Scripts, players: &Players| scripts.differences + players.differences > 0;
     while asked < options.count && !(options.first && differ(&scripts, &players)) {
         let share = BATCH.min(options.count - asked);
         asked += share;
         if let Some(path) = &options.replay {
-            let batch = draw_batch(&mut for_scripts, &mut tally, asked.saturating_sub(scripts.calls));
-            scripts.compare(path, &batch, options.first);
+            if let Some(batch) = batches.next() {
+                scripts.compare(path, &batch, options.first);
+            }
         }
         if let Some(path) = &options.player {
             for _ in 0..share.div_ceil(CALLS_A_DUMP) {

@@ -63,7 +63,7 @@ pub const MOODS: [(u64, Mood); 9] = [
     ])),
     // A queue held full, long enough for its room to be used again.
     (2, mood(500, &[
-        (2, Fill), (2, Turn), (24, Data), (3, Cycle), (1, Sync), (1, Flush), (12, Word), (2, Block), (6, Read), (1, Reset),
+        (2, Fill), (3, Turn), (24, Data), (3, Cycle), (1, Sync), (1, Flush), (12, Word), (2, Block), (6, Read), (1, Reset),
     ])),
     // Periods 0 and 1 inside and outside the IRQ.
     (4, mood(4, &[

@@ -1,6 +1,6 @@
 //! Scripts: a batch to a process of the other side, every line compared, the first difference shrunk.
 
-use crate::SHRINKING;
+use crate::{BATCH, Options, SHRINKING};
 use crate::draw::{self, Drawn};
 use crate::other;
 use crate::parting::{Parting, parting};
@@ -23,16 +23,36 @@ pub struct Scripts {
     pub differences: u64,
 }
 
-/// Scripts of so many calls or some more. The first begins on the default chip, each other makes its own.
-pub fn draw_batch(random: &mut Random, tally: &mut Tally, wanted: u64) -> Vec<Drawn> {
-    let mut batch = Vec::new();
-    let mut calls = 0;
-    while calls < wanted {
-        let drawn = draw::script(random, tally, batch.is_empty());
-        calls += drawn.calls;
-        batch.push(drawn);
+/// The scripts of a run, as many to a batch as one process gets.
+pub struct Batches {
+    random: Random,
+    pub tally: Tally,
+    count: u64,
+    asked: u64,
+    drawn: u64,
+}
+
+impl Batches {
+    pub fn new(options: &Options) -> Batches {
+        Batches { random: Random(options.seed), tally: Tally::default(), count: options.count, asked: 0, drawn: 0 }
     }
-    batch
+
+    /// The first script begins on the default chip, each other makes its own. None where enough are drawn.
+    pub fn next(&mut self) -> Option<Vec<Drawn>> {
+        while self.drawn >= self.asked {
+            if self.asked >= self.count {
+                return None;
+            }
+            self.asked += BATCH.min(self.count - self.asked);
+        }
+        let mut batch = Vec::new();
+        while self.drawn < self.asked {
+            let drawn = draw::script(&mut self.random, &mut self.tally, batch.is_empty());
+            self.drawn += drawn.calls;
+            batch.push(drawn);
+        }
+        Some(batch)
+    }
 }
 
 impl Scripts {
