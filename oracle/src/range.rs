@@ -31,10 +31,8 @@ fn generators(chip: &Ym2149) -> bool {
         counter <= 65_535 && period <= 4_095 && edges & !(0x1f << (5 * channel)) == 0
     });
     let (counter, period, register, output, _) = chip.noise().view();
-    let noise = counter <= 65_535
-        && period <= 31
-        && (1..=131_071).contains(&register)
-        && (output == 0 || output == u32::MAX);
+    let noise =
+        counter <= 65_535 && period <= 31 && (1..=131_071).contains(&register) && (output == 0 || output == u32::MAX);
     let (counter, period, position, offset) = chip.envelope().view();
     let envelope = counter <= 65_535
         && period <= 65_535

@@ -41,7 +41,10 @@ impl Draw<'_> {
                 let top = MASTER_MAX as i128;
                 self.random.pick(&[eighth - 1, eighth, eighth + 3, eighth + 7, eighth + 8, top, top + 1, quad])
             }
-            Field::Rate => self.random.pick(&[0, 1, rate - 1, rate + 1, internal, internal + 1, accumulator, accumulator + 1, quad]),
+            Field::Rate => {
+                let near = self.random.pick(&[accumulator, accumulator + 1, internal, internal + 1]);
+                self.random.pick(&[0, 1, rate - 1, rate + 1, near, near, quad])
+            }
             Field::Internal => self.random.pick(&[0, held - 1, held, held + 1, quad]),
             Field::Cycles => self.random.pick(&[0, held - 1, held, held + 1, held + (1 << 32), wide]),
             Field::Accumulator => self.random.pick(&[0, rate - 1, rate, rate + 1, quad % rate, quad]),
@@ -65,7 +68,10 @@ impl Draw<'_> {
                 let end = self.random.pick(&[i32::MIN, i32::MAX]) as i128;
                 self.random.pick(&[-65, -64, -1, 0, 62, 63, 64, byte % 128 - 64, quad - (1 << 31), end])
             }
-            Field::EnvelopeOffset => self.random.pick(&[0, 64, 1_151, 1_152, 1_153, 1_280, byte % 10 * 128, byte % 10 * 128, pair]),
+            Field::EnvelopeOffset => {
+                let row = 128 * (byte % 10);
+                self.random.pick(&[row, row, row, 64, 1_151, 1_152, 1_153, 1_280, pair])
+            }
             Field::GatesTone | Field::GatesNoise => self.random.pick(&[0, 0x7fff, 0x8000, pair & 0x7fff, quad]),
             Field::Head => self.random.pick(&[byte, byte, byte, byte, 255, 256, wide]),
             Field::Count => self.random.pick(&[0, 1, 255, 256, 256, 257, byte, byte, wide]),
@@ -122,6 +128,7 @@ impl Draw<'_> {
         let low = self.random.below(3);
         let width = self.random.within(2, 63);
         let any = self.random.spread(u64::MAX / 2).max(3);
-        self.random.pick(&[3, 4, 255, 256 + low, 65_536 + low, 65_538 + low, (1 << 32) + low, (1 << width) + low, u64::MAX, any])
+        let narrowed = low + self.random.pick(&[256, 65_536, 65_538, 1 << 32, 1 << width]);
+        self.random.pick(&[3, 4, 255, narrowed, narrowed, any, u64::MAX])
     }
 }

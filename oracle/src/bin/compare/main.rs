@@ -42,7 +42,7 @@ struct Options {
     player: Option<String>,
     first: bool,
     script: bool,
-    count_drawn: bool,
+    counting: bool,
 }
 
 fn main() {
@@ -52,7 +52,7 @@ fn main() {
     };
     match &options {
         Options { script: true, .. } => print_scripts(&options),
-        Options { count_drawn: true, .. } => print_counts(&options),
+        Options { counting: true, .. } => print_counts(&options),
         _ => compare(&options),
     }
 }
@@ -61,14 +61,14 @@ fn options() -> Option<Options> {
     let mut words = std::env::args().skip(1);
     let count = words.next()?.parse().ok()?;
     let seed = words.next()?.parse().ok()?;
-    let mut options = Options { count, seed, replay: None, player: None, first: false, script: false, count_drawn: false };
+    let mut options = Options { count, seed, replay: None, player: None, first: false, script: false, counting: false };
     while let Some(word) = words.next() {
         match word.as_str() {
             "--replay" => options.replay = Some(words.next()?),
             "--player" => options.player = Some(words.next()?),
             "--first" => options.first = true,
             "--script" => options.script = true,
-            "--count" => options.count_drawn = true,
+            "--count" => options.counting = true,
             _ => return None,
         }
     }

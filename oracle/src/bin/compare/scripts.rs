@@ -1,12 +1,12 @@
 //! Scripts: a batch to a process of the other side, every line compared, the first difference shrunk.
 
-use crate::{BATCH, Options, SHRINKING};
 use crate::draw::{self, Drawn};
 use crate::other;
 use crate::parting::{Parting, parting};
 use crate::random::Random;
 use crate::shrink::{shortest, smallest};
 use crate::tally::Tally;
+use crate::{BATCH, Options, SHRINKING};
 use oracle::refusal::{self, ACCEPTED};
 use oracle::script::Bench;
 use std::time::Instant;

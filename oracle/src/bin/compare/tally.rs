@@ -85,7 +85,9 @@ impl Tally {
             match (words, after % cycles) {
                 (1.., 0) => self.count("front stamps at a word's end"),
                 (1.., 1) => self.count("front stamps one after a word's end"),
-                (_, rest) if rest == cycles - 1 && words < length as u128 => self.count("front stamps one before a word's end"),
+                (_, rest) if rest == cycles - 1 && words < length as u128 => {
+                    self.count("front stamps one before a word's end")
+                }
                 _ => {}
             }
         }
