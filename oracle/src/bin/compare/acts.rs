@@ -233,7 +233,7 @@ impl Draw<'_> {
     fn room(&mut self) -> u64 {
         let ticks = self.ticks_a_word();
         let room = self.budget / ticks;
-        if room == 0 && self.random.one_in(2 + ticks / 100_000) { 1 } else { room }
+        if room == 0 && self.random.one_in(2 + ticks / 30_000) { 1 } else { room }
     }
 
     /// A block to be refused: a wrong side that renders it should come to its end.
