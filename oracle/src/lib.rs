@@ -12,6 +12,10 @@ pub mod mixer;
 #[path = "ym2149/tables.rs"]
 pub mod tables;
 
+pub mod call;
 pub mod dump;
+pub mod range;
 pub mod refusal;
+pub mod ring;
 pub mod script;
+pub mod set;

@@ -1,4 +1,4 @@
-//! 01, "Numbers a call can answer". 22 cannot arise: nobody hands the oracle a record.
+//! 01, "Numbers a call can answer". `range.rs` has the test of 22.
 
 pub const ACCEPTED: u8 = 0;
 pub const MASTER_TOO_HIGH: u8 = 1;
@@ -12,11 +12,12 @@ pub const BAD_FORM: u8 = 8;
 pub const OUT_OF_RANGE: u8 = 9;
 pub const BYTES_LEFT: u8 = 10;
 pub const DUMP_TOO_LONG: u8 = 11;
+pub const BAD_RECORD: u8 = 22;
 
 pub const MASTER_MAX: u32 = 1_073_741_823;
 pub const QUEUE_MAX: usize = 256;
 pub const BLOCK_MAX: usize = 65_536;
-pub const CHANNELS: u8 = 3;
+pub const CHANNELS: u64 = 3;
 pub const WORDS_MAX: u64 = 4_096;
 pub const FRAMES_MAX: u64 = 1_900;
 pub const DUMP_MAX: usize = 65_536;
@@ -52,6 +53,6 @@ pub fn of_port(port: u8, waiting: usize) -> u8 {
 }
 
 /// What a mute or drum call answers.
-pub fn of_channel(channel: u8) -> u8 {
+pub fn of_channel(channel: u64) -> u8 {
     if channel >= CHANNELS { NO_SUCH_CHANNEL } else { ACCEPTED }
 }

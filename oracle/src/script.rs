@@ -1,91 +1,137 @@
 //! A script of calls: one call to a line, and for each its answer and the whole state, a line each.
 //! README.md has the form. Answers come from the crate; a refused call never reaches it.
 
+use crate::call::{self, Call};
 use crate::chip::Ym2149;
 use crate::generators::ToneGenerator;
 use crate::mixer::ChannelState;
-use crate::refusal::{self, ACCEPTED};
-use std::fmt::Write;
+use crate::range;
+use crate::refusal::{self, ACCEPTED, BAD_RECORD};
+use crate::ring::Ring;
+use std::fmt::{Display, Write};
 
 /// A longer block prints its first and last word and a check of all.
 const WORDS_SHOWN: usize = 32;
-/// No script has a longer block.
-const LONGEST: u32 = 65_537;
+/// 01: "The default clocks are 2,000,000 and 44,100."
+const DEFAULT_MASTER: u32 = 2_000_000;
 
 /// One chip and what has been asked of it.
-#[derive(Default)]
 pub struct Bench {
     pub chip: Ym2149,
+    /// Our record has these two, and the crate has not.
+    pub master: u32,
+    pub ring: Ring,
     pub calls: u64,
     pub words: u64,
     pub ticks: u64,
 }
 
+impl Default for Bench {
+    fn default() -> Self {
+        let (chip, ring) = (Ym2149::new(), Ring::default());
+        Bench { chip, master: DEFAULT_MASTER, ring, calls: 0, words: 0, ticks: 0 }
+    }
+}
+
 impl Bench {
     /// One line: a comment prints nothing, a call its answer and the state, anything else `bad`, and gives false.
     pub fn line(&mut self, line: &str, out: &mut String) -> bool {
-        let good = line.starts_with('#') || self.call(line, out).is_some();
-        if !good {
-            out.push_str("bad\n");
+        if line.starts_with('#') {
+            return true;
         }
-        good
-    }
-
-    fn call(&mut self, line: &str, out: &mut String) -> Option<()> {
-        let answer = self.answer(line)?;
+        let Some(call) = call::read(line) else {
+            out.push_str("bad\n");
+            return false;
+        };
         self.calls += 1;
-        out.push_str(&answer);
+        out.push_str(&self.answer(call));
         out.push('\n');
         self.state(out);
-        Some(())
+        true
     }
 
-    fn answer(&mut self, line: &str) -> Option<String> {
-        let parts: Vec<&str> = line.split(' ').collect();
-        match parts[..] {
-            ["new", master, rate] => Some(self.make(number(master)?, number(rate)?)),
-            ["default"] => done(self.chip = Ym2149::new()),
-            ["reset"] => done(self.chip.reset()),
-            ["write", register, value] => done(self.chip.write_register(number(register)?, number(value)?)),
-            ["read", register] => value(self.chip.read_register(number(register)?)),
-            ["load", digits] => done(self.chip.load_registers(&bytes(digits)?)),
-            ["dump"] => value(hex(&self.chip.dump_registers())),
-            ["port", port, value] => Some(self.write_port(number(port)?, number(value)?)),
-            ["port_now", port, value] => done(self.chip.write_port_immediate(number(port)?, number(value)?)),
-            ["read_port", port] => value(self.chip.read_port(number(port)?)),
-            ["cycle", cycle] => done(self.chip.set_cpu_cycle(number(cycle)?)),
-            ["get_cycle"] => value(self.chip.cpu_cycle()),
-            ["sync", cycle] => done(self.chip.sync_sample_cycle(number(cycle)?)),
-            ["flush"] => done(self.chip.flush_pending_writes()),
-            ["pending"] => value(self.chip.pending_write_count()),
-            ["waiting", place] => Some(self.waiting(number::<u8>(place)?)),
-            ["irq", on] => done(self.chip.set_timer_irq_state(flag(on)?)),
-            ["inside_irq", on] => done(self.chip.inside_timer_irq(flag(on)?)),
-            ["trigger"] => done(self.chip.trigger_envelope()),
-            ["mute", channel, on] => Some(self.mute(number(channel)?, flag(on)?)),
-            ["muted", channel] => value(self.chip.is_channel_muted(number::<u8>(channel)? as usize) as u8),
-            ["drum", channel, "off"] => Some(self.drum(number(channel)?, None)),
-            ["drum", channel, digits] => {
-                let sample = f32::from_bits(u32::from_be_bytes(bytes(digits)?));
-                Some(self.drum(number(channel)?, Some(sample)))
+    /// 01, "What changes shape".
+    pub fn in_range(&self) -> bool {
+        range::in_range(&self.chip, self.master, &self.ring)
+    }
+
+    fn answer(&mut self, call: Call) -> String {
+        match call {
+            Call::New(master, rate) => self.make(master, rate),
+            Call::Default => self.make_default(ACCEPTED),
+            Call::Waiting(place) => self.waiting(place),
+            Call::Lent => done(()),
+            Call::Set(field, value) => done(self.set(field, value)),
+            // 01: "22 is checked before all else."
+            _ if !self.in_range() => out_of_range(call),
+            _ => {
+                let before = self.chip.pending_write_count();
+                let answer = self.asked(call);
+                self.follow(call, before);
+                answer
             }
-            ["outputs"] => {
-                let (a, b, c) = self.chip.get_channel_outputs();
+        }
+    }
+
+    /// A call on a record in range.
+    fn asked(&mut self, call: Call) -> String {
+        let chip = &mut self.chip;
+        match call {
+            Call::Reset => done(chip.reset()),
+            Call::Write(register, value) => done(chip.write_register(register, value)),
+            Call::Read(register) => value(chip.read_register(register)),
+            Call::Load(bytes) => done(chip.load_registers(&bytes)),
+            Call::Dump => value(hex(&chip.dump_registers())),
+            Call::Port(port, value) => self.write_port(port, value),
+            Call::PortNow(port, value) => done(chip.write_port_immediate(port, value)),
+            Call::ReadPort(port) => value(chip.read_port(port)),
+            Call::Cycle(cycle) => done(chip.set_cpu_cycle(cycle)),
+            Call::GetCycle => value(chip.cpu_cycle()),
+            Call::Sync(cycle) => done(chip.sync_sample_cycle(cycle)),
+            Call::Flush => done(chip.flush_pending_writes()),
+            Call::Pending => value(chip.pending_write_count()),
+            Call::Irq(on) => done(chip.set_timer_irq_state(on)),
+            Call::InsideIrq(on) => done(chip.inside_timer_irq(on)),
+            Call::Trigger => done(chip.trigger_envelope()),
+            Call::Mute(channel, on) => self.mute(channel, on),
+            Call::Muted(channel) => value(chip.is_channel_muted(channel as usize) as u8),
+            Call::Drum(channel, sample) => self.drum(channel, sample),
+            Call::Outputs => {
+                let (a, b, c) = chip.get_channel_outputs();
                 value(format!("{} {} {}", bits(a), bits(b), bits(c)))
             }
-            ["word"] => Some(self.block(1)),
-            ["block", length] => Some(self.block(number(length).filter(|&length: &u32| length <= LONGEST)? as usize)),
-            ["lent", on] => done(flag(on)?),
-            _ => None,
+            Call::Block(length) => self.block(length),
+            Call::New(..) | Call::Default | Call::Waiting(_) | Call::Lent | Call::Set(..) => unreachable!(),
+        }
+    }
+
+    /// The ring does as the crate's queue did, of which so many writes waited before the call.
+    fn follow(&mut self, call: Call, before: usize) {
+        let after = self.chip.pending_write_count();
+        if matches!(call, Call::Reset) {
+            self.ring = Ring::default();
+        } else if after > before {
+            self.ring.push(self.chip.waiting(before).unwrap());
+        } else {
+            self.ring.drop_front((before - after) as u64);
         }
     }
 
     fn make(&mut self, master: u32, rate: u32) -> String {
         let refusal = refusal::of_clocks(master, rate);
-        self.chip = match refusal {
-            ACCEPTED => Ym2149::with_clocks(master, rate),
-            _ => Ym2149::new(),
-        };
+        if refusal != ACCEPTED {
+            return self.make_default(refusal);
+        }
+        self.chip = Ym2149::with_clocks(master, rate);
+        self.master = master;
+        self.ring = Ring::default();
+        refusal.to_string()
+    }
+
+    fn make_default(&mut self, refusal: u8) -> String {
+        self.chip = Ym2149::new();
+        self.master = DEFAULT_MASTER;
+        self.ring = Ring::default();
         refusal.to_string()
     }
 
@@ -97,14 +143,19 @@ impl Bench {
         refusal.to_string()
     }
 
+    /// The crate's queue says what waits, unless `set` has made a ring that it cannot stand for.
     fn waiting(&self, place: u8) -> String {
-        match self.chip.waiting(place as usize) {
+        let write = match self.ring.fits() {
+            true => self.chip.waiting(place as usize),
+            false => self.ring.at(place as u64),
+        };
+        match write {
             Some((stamp, register, value)) => format!("{ACCEPTED} {stamp} {register} {value}"),
             None => format!("{ACCEPTED} none"),
         }
     }
 
-    fn mute(&mut self, channel: u8, on: bool) -> String {
+    fn mute(&mut self, channel: u64, on: bool) -> String {
         let refusal = refusal::of_channel(channel);
         if refusal == ACCEPTED {
             self.chip.set_channel_mute(channel as usize, on);
@@ -112,7 +163,7 @@ impl Bench {
         refusal.to_string()
     }
 
-    fn drum(&mut self, channel: u8, sample: Option<f32>) -> String {
+    fn drum(&mut self, channel: u64, sample: Option<f32>) -> String {
         let refusal = refusal::of_channel(channel);
         if refusal == ACCEPTED {
             self.chip.set_drum_sample_override(channel as usize, sample);
@@ -160,7 +211,8 @@ impl Bench {
         for (name, channel) in ["a", "b", "c"].iter().zip(&chip.mixer().channels) {
             write!(out, " {name}={}", channel_text(channel)).unwrap();
         }
-        write!(out, " waiting={} clocks={internal},{rate},{cycles}", chip.pending_write_count()).unwrap();
+        let waiting = if self.ring.fits() { chip.pending_write_count() as u64 } else { self.ring.count };
+        write!(out, " waiting={waiting} clocks={internal},{rate},{cycles}").unwrap();
         write!(out, " accumulator={} stamp={}", chip.accumulator(), chip.cpu_cycle()).unwrap();
         writeln!(out, " start={} irq={}", chip.start(), chip.irq() as u8).unwrap();
     }
@@ -177,40 +229,24 @@ fn channel_text(channel: &ChannelState) -> String {
     format!("{muted},{drum},{},{}", bits(channel.last_output), bits(channel.last_amplitude))
 }
 
-fn done<T>(_: T) -> Option<String> {
-    Some(ACCEPTED.to_string())
+fn done<T>(_: T) -> String {
+    ACCEPTED.to_string()
 }
 
-fn value<T: std::fmt::Display>(value: T) -> Option<String> {
-    Some(format!("{ACCEPTED} {value}"))
+fn value<T: Display>(value: T) -> String {
+    format!("{ACCEPTED} {value}")
 }
 
-fn flag(text: &str) -> Option<bool> {
-    match text {
-        "0" => Some(false),
-        "1" => Some(true),
-        _ => None,
-    }
-}
-
-/// Decimal digits alone, no needless leading zero, within the type.
-fn number<T: std::str::FromStr>(text: &str) -> Option<T> {
-    let digits = text.bytes().all(|byte| byte.is_ascii_digit());
-    let needless = text.len() > 1 && text.starts_with('0');
-    if !digits || needless { None } else { text.parse().ok() }
-}
-
-/// Exactly two lower-case hex digits to a byte.
-fn bytes<const N: usize>(text: &str) -> Option<[u8; N]> {
-    let digits = text.bytes().all(|byte| matches!(byte, b'0'..=b'9' | b'a'..=b'f'));
-    if !digits || text.len() != 2 * N {
-        return None;
-    }
-    let mut out = [0; N];
-    for (place, byte) in out.iter_mut().enumerate() {
-        *byte = u8::from_str_radix(&text[2 * place..2 * place + 2], 16).ok()?;
-    }
-    Some(out)
+/// 01: "nothing changes, other answers 0 or no".
+fn out_of_range(call: Call) -> String {
+    let others = match call {
+        Call::Read(_) | Call::ReadPort(_) | Call::GetCycle | Call::Pending | Call::Muted(_) => " 0",
+        Call::Dump => " 00000000000000000000000000000000",
+        Call::Outputs => " 00000000 00000000 00000000",
+        Call::Block(_) => " 0 0",
+        _ => "",
+    };
+    format!("{BAD_RECORD}{others}")
 }
 
 fn hex(bytes: &[u8]) -> String {

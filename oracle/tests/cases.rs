@@ -1,15 +1,16 @@
-//! The oracle beside 01: what `cases.script` expects of its calls, and the dumps that 01 and its open points name.
+//! The oracle beside 01: what `cases.script` and `range.script` expect of their calls, and the dumps that 01 and its open points name.
 
 use oracle::dump::play;
 use oracle::script::Bench;
 use oracle::tables::{ENV_DATA, MASKS, REG_MASK, SHAPE_TO_ENV, YM2149_LOG_LEVELS};
 
-#[test]
-fn cases_of_01() {
+/// Plays a script and holds each `# answer:` and `# state:` beside what the call above printed. Answers how many there were.
+fn check(script: &str, mut unsaid: impl FnMut(&str, &str, &str)) -> usize {
     let mut bench = Bench::default();
-    let mut printed = String::new();
+    let (mut printed, mut before) = (String::new(), String::new());
     let mut checked = 0;
-    for (place, line) in include_str!("../cases.script").lines().enumerate() {
+    let lines: Vec<&str> = script.lines().collect();
+    for (place, line) in lines.iter().enumerate() {
         let (answer, state) = printed.split_once('\n').unwrap_or_default();
         if let Some(expected) = line.strip_prefix("# answer: ") {
             assert_eq!(answer, expected, "line {}", place + 1);
@@ -19,11 +20,99 @@ fn cases_of_01() {
             assert_eq!(fields.collect::<Vec<_>>(), [""; 0], "line {}: {state}", place + 1);
             checked += 1;
         } else if !line.starts_with('#') {
+            before = state.to_string();
             printed.clear();
             assert!(bench.line(line, &mut printed), "line {}", place + 1);
+            if bench.ring.fits() {
+                let queue: Vec<_> = (0..).map_while(|place| bench.chip.waiting(place)).collect();
+                assert_eq!(bench.ring.all(), queue, "line {}: the ring and the crate's queue", place + 1);
+            }
+            if !lines.get(place + 1).is_some_and(|next| next.starts_with("# answer: ")) {
+                unsaid(line, &before, &printed);
+            }
         }
     }
+    checked
+}
+
+#[test]
+fn cases_of_01() {
+    let checked = check(include_str!("../cases.script"), |_, _, _| ());
     assert!(checked > 150, "{checked}");
+}
+
+/// Drawn scripts with nothing said under them: what is checked is that the ring follows the crate's queue.
+#[test]
+fn ring_of_the_kept_sample() {
+    assert_eq!(check(include_str!("../sample-2000-1.script"), |_, _, _| ()), 0);
+}
+
+#[test]
+fn forms_of_set() {
+    for (line, good) in [
+        ("set select 255", true),
+        ("set select 256", false),
+        ("set select 01", false),
+        ("set select -1", false),
+        ("set select", false),
+        ("set select 1 ", false),
+        ("set R13 255", true),
+        ("set R14 0", false),
+        ("set R01 0", false),
+        ("set a_period 0", false),
+        ("set C_period 65535", true),
+        ("set C_period 65536", false),
+        ("set noise_period 256", false),
+        ("set noise_output 4294967295", true),
+        ("set noise_output 4294967296", false),
+        ("set envelope_position -2147483648", true),
+        ("set envelope_position -2147483649", false),
+        ("set envelope_position 2147483647", true),
+        ("set envelope_position 2147483648", false),
+        ("set envelope_position -0", false),
+        ("set envelope_position -01", false),
+        ("set envelope_position --1", false),
+        ("set envelope_position -", false),
+        ("set head 18446744073709551615", true),
+        ("set head 18446744073709551616", false),
+        ("set irq 1", false),
+    ] {
+        assert_eq!(Bench::default().line(line, &mut String::new()), good, "{line}");
+    }
+}
+
+/// What `range.script` says of itself: a call with no answer under it answers 22 and leaves the state.
+#[test]
+fn range_of_01() {
+    let mut refused = Vec::new();
+    let mut lent = false;
+    let checked = check(include_str!("../range.script"), |line, before, printed| {
+        let name = line.split(' ').next().unwrap();
+        let (answer, state) = printed.split_once('\n').unwrap();
+        match name {
+            "set" => assert_eq!(answer, "0", "{line}"),
+            "lent" => lent = line == "lent 1",
+            _ => {
+                let others = match name {
+                    "read" | "read_port" | "get_cycle" | "pending" | "muted" => "0",
+                    "dump" => "00000000000000000000000000000000",
+                    "outputs" => "00000000 00000000 00000000",
+                    "word" | "block" => "0 0",
+                    _ => "",
+                };
+                assert_eq!(answer, format!("22 {others}").trim_end(), "{line}");
+                assert_eq!(state, before, "{line}");
+                refused.push((name.to_string(), lent));
+            }
+        }
+    });
+    assert!(checked > 50, "{checked}");
+    // every call but the makings, by value and lent
+    let calls = "reset write read load dump port port_now read_port cycle get_cycle sync flush pending irq inside_irq trigger mute \
+        muted drum outputs word block";
+    for call in calls.split_whitespace() {
+        assert!(refused.contains(&(call.to_string(), false)) && refused.contains(&(call.to_string(), true)), "{call}");
+    }
 }
 
 /// 01, "Envelope entry for shape bits C A L H".

@@ -1,4 +1,4 @@
-//! What the crate's own tables.rs, generators.rs and mixer.rs give, line by line as `crates/leaves` prints it.
+//! What the crate's own tables.rs, generators.rs and mixer.rs give, line by line as `crates/test_leaves` prints it.
 //!
 //! The three files are ym2149 0.9.1's, their private fields made `pub`. What the crate keeps in chip.rs is
 //! copied here with the lines that it stands on there: `random_seed`, the edges of a reset, the pending mark,

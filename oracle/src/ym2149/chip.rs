@@ -559,7 +559,7 @@ impl Ym2149 {
 // =============================================================================
 
 // =============================================================================
-// Oracle: read-only views, and the counter of ticks. Nothing above reads them.
+// Oracle: views and setters of private fields, and the counter of ticks. Nothing above reads or calls them.
 // =============================================================================
 
 /// Ticks run since the chip was made. The plain build, which is timed, does not count them.
@@ -622,5 +622,49 @@ impl Ym2149 {
     pub fn waiting(&self, place: usize) -> Option<(u64, u8, u8)> {
         let write = self.write_queue.get(place)?;
         Some((write.cpu_cycle, write.register, write.value))
+    }
+
+    pub fn set_clocks(&mut self, internal: u32, rate: u32, cycles: u64) {
+        self.internal_clock = internal;
+        self.sample_rate = rate;
+        self.cpu_cycles_per_sample = cycles;
+    }
+
+    pub fn set_accumulator(&mut self, accumulator: u32) {
+        self.cycle_accumulator = accumulator;
+    }
+
+    pub fn set_start(&mut self, start: u64) {
+        self.sample_start_cycle = start;
+    }
+
+    pub fn set_stored(&mut self, register: usize, value: u8) {
+        self.registers[register] = value;
+    }
+
+    pub fn set_selection(&mut self, register: usize) {
+        self.selected_register = register;
+    }
+
+    pub fn tone_mut(&mut self, channel: usize) -> &mut ToneGenerator {
+        &mut self.tone_generators[channel]
+    }
+
+    pub fn noise_mut(&mut self) -> &mut NoiseGenerator {
+        &mut self.noise_generator
+    }
+
+    pub fn envelope_mut(&mut self) -> &mut EnvelopeGenerator {
+        &mut self.envelope_generator
+    }
+
+    pub fn config_mut(&mut self) -> &mut crate::mixer::MixerConfig {
+        &mut self.mixer.config
+    }
+
+    /// Stamp, register and value of each, front first.
+    pub fn set_waiting(&mut self, writes: &[(u64, u8, u8)]) {
+        let waiting = |&(cpu_cycle, register, value): &(u64, u8, u8)| PendingWrite { cpu_cycle, register, value };
+        self.write_queue = writes.iter().map(waiting).collect();
     }
 }

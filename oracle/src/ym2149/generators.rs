@@ -263,13 +263,17 @@ impl EnvelopeGenerator {
 }
 
 // =============================================================================
-// Oracle: read-only views. Nothing above reads them.
+// Oracle: views of private fields, and setters of those that have none above. Nothing above reads or calls them.
 // =============================================================================
 
 impl ToneGenerator {
     /// Counter, period, edges, pending flip.
     pub fn view(&self) -> (u32, u32, u32, bool) {
         (self.counter, self.period, self.edge_bits, self.pending_reset)
+    }
+
+    pub fn set_counter(&mut self, counter: u32) {
+        self.counter = counter;
     }
 }
 
@@ -278,11 +282,35 @@ impl NoiseGenerator {
     pub fn view(&self) -> (u32, u32, u32, u32, bool) {
         (self.counter, self.period, self.lfsr, self.output_mask, self.half_tick)
     }
+
+    pub fn set_counter(&mut self, counter: u32) {
+        self.counter = counter;
+    }
+
+    pub fn set_register(&mut self, register: u32) {
+        self.lfsr = register;
+    }
+
+    pub fn set_output(&mut self, output: u32) {
+        self.output_mask = output;
+    }
 }
 
 impl EnvelopeGenerator {
     /// Counter, period, position, shape offset.
     pub fn view(&self) -> (u32, u32, i32, usize) {
         (self.counter, self.period, self.position, self.data_offset)
+    }
+
+    pub fn set_counter(&mut self, counter: u32) {
+        self.counter = counter;
+    }
+
+    pub fn set_position(&mut self, position: i32) {
+        self.position = position;
+    }
+
+    pub fn set_offset(&mut self, offset: usize) {
+        self.data_offset = offset;
     }
 }

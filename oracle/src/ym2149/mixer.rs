@@ -215,12 +215,17 @@ impl Mixer {
 }
 
 // =============================================================================
-// Oracle: read-only views. Nothing above reads them.
+// Oracle: a view of the private fields, and a setter. Nothing above reads or calls them.
 // =============================================================================
 
 impl MixerConfig {
     /// Tone mask, noise mask.
     pub fn view(&self) -> (u32, u32) {
         (self.tone_mask, self.noise_mask)
+    }
+
+    pub fn set_masks(&mut self, tone: u32, noise: u32) {
+        self.tone_mask = tone;
+        self.noise_mask = noise;
     }
 }

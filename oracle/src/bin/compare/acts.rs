@@ -1,11 +1,7 @@
 //! The calls that a script is made of, with arguments that aim at 01's limits.
 
 use crate::draw::Draw;
-use oracle::refusal::{BLOCK_MAX, QUEUE_MAX};
-
-/// Bytes with bit 1 clear, which select, and with it set, which write.
-const SELECTING: [u8; 6] = [0, 0, 0, 1, 4, 253];
-const WRITING: [u8; 6] = [2, 2, 2, 3, 6, 255];
+use oracle::refusal::{self, ACCEPTED, BLOCK_MAX, QUEUE_MAX};
 
 impl Draw<'_> {
     // ---- registers ----
@@ -42,13 +38,11 @@ impl Draw<'_> {
         let (even, odd) = (self.random.pick(&[0, 0, 1, 1, 2, 255]), self.random.pick(&[0, 0, 0, 16, 1]));
         let value = if register % 2 == 0 { even } else { odd };
         match self.random.below(4) {
-            0 => {
-                self.call(format!("port 0 {register}"));
-                self.call(format!("port 2 {value}"));
-            }
-            1 => {
-                self.call(format!("port_now 0 {register}"));
-                self.call(format!("port_now 2 {value}"));
+            way @ 0..=1 => {
+                let name = ["port", "port_now"][way as usize];
+                let (selecting, writing) = (self.selecting(), self.writing());
+                self.call(format!("{name} {selecting} {register}"));
+                self.call(format!("{name} {writing} {value}"));
             }
             _ => self.call(format!("write {register} {value}")),
         }
@@ -68,6 +62,16 @@ impl Draw<'_> {
 
     // ---- ports and queue ----
 
+    /// A port with bit 1 clear, which selects.
+    fn selecting(&mut self) -> u8 {
+        if self.random.one_in(2) { 0 } else { self.random.byte() & !2 }
+    }
+
+    /// A port with bit 1 set, which writes.
+    fn writing(&mut self) -> u8 {
+        if self.random.one_in(2) { 2 } else { self.random.byte() | 2 }
+    }
+
     pub fn data(&mut self) {
         if self.random.one_in(2) {
             self.stamped("cycle");
@@ -75,7 +79,7 @@ impl Draw<'_> {
         if self.random.one_in(2) {
             self.select("port");
         }
-        let port = self.random.pick(&WRITING);
+        let port = self.writing();
         let value = self.value(self.bench.chip.selection() as u8);
         self.call(format!("port {port} {value}"));
     }
@@ -84,13 +88,13 @@ impl Draw<'_> {
         if self.random.one_in(2) {
             self.select("port_now");
         }
-        let port = self.random.pick(&WRITING);
+        let port = self.writing();
         let value = self.value(self.bench.chip.selection() as u8);
         self.call(format!("port_now {port} {value}"));
     }
 
     fn select(&mut self, name: &str) {
-        let port = self.random.pick(&SELECTING);
+        let port = self.selecting();
         let register = if self.random.one_in(12) { self.random.byte() } else { self.random.below(16) as u8 };
         self.call(format!("{name} {port} {register}"));
     }
@@ -105,9 +109,44 @@ impl Draw<'_> {
                 1 => self.select("port"),
                 _ => {}
             }
+            let port = self.writing();
             let value = self.value(self.bench.chip.selection() as u8);
-            self.call(format!("port 2 {value}"));
+            self.call(format!("port {port} {value}"));
             asked += 1;
+        }
+    }
+
+    /// A full queue of which each word takes a few writes, so that the ring turns and stays full.
+    pub fn turn(&mut self) {
+        let (_, _, cycles) = self.bench.chip.clocks();
+        let (each, turns) = (self.random.pick(&[1, 1, 1, 2, 4]), self.random.within(1, 256));
+        let far = (QUEUE_MAX as u64 + turns).saturating_mul(cycles);
+        if self.bench.chip.start().checked_add(far).is_none() || self.ticks_a_word() * turns > self.budget {
+            return;
+        }
+        self.call("flush".into());
+        let mut end = self.bench.chip.start();
+        for _ in 0..QUEUE_MAX as u64 / each {
+            end += cycles;
+            self.due(end, each);
+        }
+        for _ in 0..turns {
+            self.call("word".into());
+            end += cycles;
+            let room = QUEUE_MAX - self.bench.chip.pending_write_count();
+            self.due(end, room as u64);
+        }
+    }
+
+    /// Writes stamped at a word's end, one before or one after it; one more than fits now and then.
+    fn due(&mut self, end: u64, writes: u64) {
+        let stamp = self.random.pick(&[end, end, end - 1, end.saturating_add(1)]);
+        self.call(format!("cycle {stamp}"));
+        let more = self.random.one_in(16) as u64;
+        for _ in 0..writes + more {
+            let port = self.writing();
+            let value = self.random.byte();
+            self.call(format!("port {port} {value}"));
         }
     }
 
@@ -149,7 +188,7 @@ impl Draw<'_> {
     }
 
     pub fn mute(&mut self) {
-        let channel = self.random.below(3);
+        let channel = if self.random.one_in(12) { self.no_channel() } else { self.random.below(3) };
         let on = self.random.below(2);
         self.call(format!("mute {channel} {on}"));
     }
@@ -163,11 +202,11 @@ impl Draw<'_> {
         self.call(format!("drum {channel} {bits:08x}"));
     }
 
-    /// Every kind of f32, most of them where the cut to a level is close.
+    /// Every kind of f32, more than half of them where the cut to a level is close.
     fn sample(&mut self) -> u32 {
         let payload = self.random.next() as u32;
         let sign = payload & 0x8000_0000;
-        match self.random.below(12) {
+        match self.random.below(24) {
             0 => sign | 0x7f80_0001 | payload & 0x007f_ffff,
             1 => sign | 0x7f80_0000,
             2 => sign,
@@ -176,7 +215,7 @@ impl Draw<'_> {
             5 => self.random.pick(&[1.0f32, 4.0, 8.0, 0.5, 3.999_999_8, 4.000_000_5, -1.0, -8.0, f32::MAX]).to_bits(),
             6 => (payload as f32 / u32::MAX as f32 * 5.0).to_bits(),
             _ => {
-                let level = self.random.within(0, 10_923) as f64 + self.random.pick(&[0.0, 0.5]);
+                let level = self.random.within(0, 10_923) as f64 + self.random.pick(&[0.0, 0.0, 0.0, 0.5]);
                 let close = (level * 4.0 / 10_922.0) as f32;
                 close.to_bits().wrapping_add(self.random.below(7) as u32).wrapping_sub(3)
             }
@@ -185,16 +224,16 @@ impl Draw<'_> {
 
     // ---- words ----
 
-    fn ticks_a_word(&self) -> u64 {
+    pub fn ticks_a_word(&self) -> u64 {
         let (internal, rate, _) = self.bench.chip.clocks();
         (internal / rate) as u64 + 1
     }
 
-    /// Words that the budget allows. A slow clock gets one now and then all the same.
+    /// Words that the budget allows. A clock that is too slow for it gets one now and then all the same.
     fn room(&mut self) -> u64 {
         let ticks = self.ticks_a_word();
         let room = self.budget / ticks;
-        if room == 0 && self.random.one_in(2 + ticks / 100_000) { 1 } else { room }
+        if room == 0 && self.random.one_in(2 + ticks / 30_000) { 1 } else { room }
     }
 
     /// A block to be refused: a wrong side that renders it should come to its end.
@@ -220,25 +259,47 @@ impl Draw<'_> {
                 return self.call(format!("block {length}"));
             }
         }
-        let room = self.room().min(BLOCK_MAX as u64);
         let length = match self.random.below(12) {
-            0 => 0,
+            0 => return self.call("block 0".into()),
             1 => 1,
             2..=5 => self.random.within(2, 40),
             6..=10 => self.random.spread(4_000),
             _ => self.random.spread(BLOCK_MAX as u64),
         };
-        self.call(format!("block {}", length.min(room)));
+        // A part of what the budget allows, so that it lasts for the script.
+        let room = self.room();
+        let length = length.min(room.div_ceil(4));
+        if length > 0 {
+            self.call(format!("block {length}"));
+        }
+    }
+
+    /// An envelope whose counter climbs high, up to its step or nearly. It has ticks of its own.
+    pub fn climb(&mut self) {
+        let any = self.random.byte();
+        let (low, high) = (self.random.pick(&[255, 254, any]), self.random.pick(&[255, 255, 254, 128, 64]));
+        let ticks = self.ticks_a_word();
+        let period = low as u64 + 256 * high as u64;
+        let words = (period / ticks).saturating_sub(self.random.below(3));
+        let (_, _, cycles) = self.bench.chip.clocks();
+        if words == 0 || refusal::of_block(words as usize, self.bench.chip.start(), cycles) != ACCEPTED {
+            return;
+        }
+        self.budget += period;
+        self.call(format!("write 11 {low}"));
+        self.call(format!("write 12 {high}"));
+        self.call("trigger".into());
+        self.call(format!("block {words}"));
     }
 
     // ---- the rest ----
 
     pub fn read(&mut self) {
         let register = if self.random.one_in(4) { self.random.byte() } else { self.random.below(16) as u8 };
-        let port = self.random.pick(&[SELECTING, WRITING].concat());
+        let port = if self.random.one_in(2) { self.selecting() } else { self.writing() };
         let last = self.bench.chip.pending_write_count().min(255) as u64;
         let place = self.random.within(0, last);
-        let channel = self.random.pick(&[0, 1, 2, 3, 255]);
+        let channel = self.channel();
         let line = match self.random.below(8) {
             0 => format!("read {register}"),
             1 => "dump".into(),
@@ -253,11 +314,12 @@ impl Draw<'_> {
     }
 
     pub fn refused(&mut self) {
-        let channel = self.random.pick(&[3, 4, 255]);
+        let channel = self.no_channel();
+        let on = self.random.below(2);
         let bits = self.sample();
         let line = match self.random.below(6) {
             0 | 1 if self.bearable(BLOCK_MAX as u64 + 1) => format!("block {}", BLOCK_MAX + 1),
-            1 => format!("mute {channel} 1"),
+            1 => format!("mute {channel} {on}"),
             2 => format!("drum {channel} off"),
             3 => format!("drum {channel} {bits:08x}"),
             _ => {

@@ -2,8 +2,15 @@
 
 use crate::moods::{Act, Act::*, MOODS, weighed};
 use crate::random::Random;
+use crate::tally::Tally;
 use oracle::refusal::MASTER_MAX;
 use oracle::script::Bench;
+
+/// Most clocks have a word of at most so many ticks, and slow ones of at most so many.
+const SOME_TICKS: u64 = 700;
+const MANY_TICKS: u64 = 26_843;
+/// A new chip has ticks for so many words at least, if its clock is not of the slowest.
+const SOME_WORDS: u64 = 24;
 
 /// A script, what the oracle prints for it, and its tally.
 pub struct Drawn {
@@ -16,6 +23,7 @@ pub struct Drawn {
 
 pub struct Draw<'a> {
     pub random: &'a mut Random,
+    tally: &'a mut Tally,
     pub bench: Bench,
     script: String,
     printed: String,
@@ -24,16 +32,18 @@ pub struct Draw<'a> {
 }
 
 /// One script of a drawn mood. It makes its chip first, unless it begins on the default one.
-pub fn script(random: &mut Random, begin_on_default: bool) -> Drawn {
-    let budget = 1_000 + random.spread(1 << 20);
+pub fn script(random: &mut Random, tally: &mut Tally, begin_on_default: bool) -> Drawn {
     let mood = weighed(random, &MOODS);
-    let calls = mood.calls + random.spread(255);
-    let mut draw = Draw { random, bench: Bench::default(), script: String::new(), printed: String::new(), budget };
+    let calls = mood.calls + random.spread(2_047);
+    let budget = 20 * calls + random.spread(1 << 20);
+    let (script, printed) = (String::new(), String::new());
+    let mut draw = Draw { random, tally, bench: Bench::default(), script, printed, budget };
+    draw.tally.script();
     if !begin_on_default {
         draw.make();
     }
     draw.lent();
-    while draw.bench.calls < calls {
+    while draw.bench.calls < calls && !draw.spent() {
         draw.act(mood.acts);
     }
     let Bench { calls, words, ticks, .. } = draw.bench;
@@ -42,11 +52,20 @@ pub fn script(random: &mut Random, begin_on_default: bool) -> Drawn {
 
 impl Draw<'_> {
     pub fn call(&mut self, line: String) {
-        let before = self.bench.ticks;
-        assert!(self.bench.line(&line, &mut self.printed), "not of the form: {line}");
-        self.budget = self.budget.saturating_sub(self.bench.ticks - before);
+        let (ticks, printed) = (self.bench.ticks, self.printed.len());
+        let call = self.tally.before(&line, &self.bench);
+        assert!(self.bench.line(&line, &mut self.printed));
+        let number = self.printed[printed..].split([' ', '\n']).next().and_then(|number| number.parse().ok());
+        self.tally.after(call, number.unwrap(), &self.bench);
+        self.budget = self.budget.saturating_sub(self.bench.ticks - ticks);
         self.script.push_str(&line);
         self.script.push('\n');
+    }
+
+    /// No word is left to a clock that is not of the slowest.
+    fn spent(&self) -> bool {
+        let ticks = self.ticks_a_word();
+        self.budget < ticks && ticks <= MANY_TICKS
     }
 
     fn act(&mut self, acts: &[(u64, Act)]) {
@@ -57,6 +76,7 @@ impl Draw<'_> {
             Load => self.load(),
             Data => self.data(),
             Fill => self.fill(),
+            Turn => self.turn(),
             Now => self.now(),
             Cycle => self.stamped("cycle"),
             Sync => self.stamped("sync"),
@@ -73,12 +93,14 @@ impl Draw<'_> {
             New => self.make(),
             Refused => self.refused(),
             Lent => self.lent(),
+            Climb => self.climb(),
+            Set => self.set(),
         }
     }
 
     // ---- making ----
 
-    fn make(&mut self) {
+    pub fn make(&mut self) {
         let (master, rate) = match self.random.below(24) {
             0 => return self.call("default".into()),
             1..=2 => self.refused_clocks(),
@@ -86,14 +108,32 @@ impl Draw<'_> {
             6..=8 => self.one_tick_clocks(),
             9..=10 => self.tiny_clocks(),
             11..=12 => self.extreme_clocks(),
+            13..=14 => self.slow_clocks(),
             _ => self.any_clocks(),
         };
         self.call(format!("new {master} {rate}"));
+        let ticks = self.ticks_a_word();
+        if ticks <= MANY_TICKS {
+            self.budget = self.budget.max(SOME_WORDS * ticks);
+        }
     }
 
     fn any_clocks(&mut self) -> (u64, u64) {
+        let ticks = self.random.spread(SOME_TICKS);
         let master = self.random.spread(MASTER_MAX as u64).max(8);
-        let ticks = self.random.spread(700);
+        self.clocks_of(master, ticks)
+    }
+
+    /// Hundreds of ticks to a word, and thousands.
+    fn slow_clocks(&mut self) -> (u64, u64) {
+        let high = self.random.pick(&[2_000, MANY_TICKS]);
+        let ticks = self.random.within(SOME_TICKS, high);
+        let master = self.random.within(8 * ticks, MASTER_MAX as u64);
+        self.clocks_of(master, ticks)
+    }
+
+    /// So many ticks to a word, or nearly.
+    fn clocks_of(&mut self, master: u64, ticks: u64) -> (u64, u64) {
         let rate = (master / 8 / ticks + self.random.below(3)).clamp(1, master / 8);
         (master, rate)
     }

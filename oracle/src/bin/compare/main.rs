@@ -3,6 +3,7 @@
 mod acts;
 mod draw;
 mod dumps;
+mod fields;
 mod moods;
 mod other;
 mod parting;
@@ -10,10 +11,11 @@ mod players;
 mod random;
 mod scripts;
 mod shrink;
+mod tally;
 
 use players::Players;
 use random::Random;
-use scripts::{Scripts, draw_batch};
+use scripts::{Batches, Scripts};
 use std::time::Duration;
 
 /// Calls handed to one process of the other side, at least.
@@ -23,14 +25,15 @@ const CALLS_A_DUMP: u64 = 100;
 /// How long a shrinking may take.
 const SHRINKING: Duration = Duration::from_secs(10);
 
-const USAGE: &str = "usage: compare COUNT SEED [--replay PATH] [--player PATH] [--first] [--script]
+const USAGE: &str = "usage: compare COUNT SEED [--replay PATH] [--player PATH] [--first] [--script] [--count]
 
 Draws scripts of COUNT calls in all, and a dump for each 100 calls, and compares the oracle with
 --replay PATH   a program that reads a script, and
 --player PATH   a program that reads a dump.
 With neither, the oracle's own programs stand in, which tests only the comparing.
 --first         end at the first difference
---script        print the scripts that would be run, and run nothing";
+--script        print the scripts that would be run, and run nothing
+--count         print what would be drawn, counted, and run the oracle alone";
 
 struct Options {
     count: u64,
@@ -39,6 +42,7 @@ struct Options {
     player: Option<String>,
     first: bool,
     script: bool,
+    counting: bool,
 }
 
 fn main() {
@@ -46,9 +50,10 @@ fn main() {
         eprintln!("{USAGE}");
         std::process::exit(2);
     };
-    match options.script {
-        true => print_scripts(&options),
-        false => compare(&options),
+    match &options {
+        Options { script: true, .. } => print_scripts(&options),
+        Options { counting: true, .. } => print_counts(&options),
+        _ => compare(&options),
     }
 }
 
@@ -56,13 +61,14 @@ fn options() -> Option<Options> {
     let mut words = std::env::args().skip(1);
     let count = words.next()?.parse().ok()?;
     let seed = words.next()?.parse().ok()?;
-    let mut options = Options { count, seed, replay: None, player: None, first: false, script: false };
+    let mut options = Options { count, seed, replay: None, player: None, first: false, script: false, counting: false };
     while let Some(word) = words.next() {
         match word.as_str() {
             "--replay" => options.replay = Some(words.next()?),
             "--player" => options.player = Some(words.next()?),
             "--first" => options.first = true,
             "--script" => options.script = true,
+            "--count" => options.counting = true,
             _ => return None,
         }
     }
@@ -80,20 +86,22 @@ fn beside(name: &str) -> String {
 }
 
 fn print_scripts(options: &Options) {
-    let mut random = Random(options.seed);
-    let mut calls = 0;
-    while calls < options.count {
+    let mut batches = Batches::new(options);
+    while let Some(batch) = batches.next() {
         println!("default");
-        for drawn in draw_batch(&mut random, BATCH.min(options.count - calls)) {
-            print!("{}", drawn.script);
-            calls += drawn.calls;
-        }
+        batch.iter().for_each(|drawn| print!("{}", drawn.script));
     }
+}
+
+fn print_counts(options: &Options) {
+    let mut batches = Batches::new(options);
+    while batches.next().is_some() {}
+    batches.tally.print();
 }
 
 fn compare(options: &Options) {
     // Apart, so that the same scripts are drawn whether dumps are or not.
-    let mut for_scripts = Random(options.seed);
+    let mut batches = Batches::new(options);
     let mut for_dumps = Random(!options.seed);
     let mut scripts = Scripts::default();
     let mut players = Players::default();
@@ -103,8 +111,9 @@ fn compare(options: &Options) {
         let share = BATCH.min(options.count - asked);
         asked += share;
         if let Some(path) = &options.replay {
-            let batch = draw_batch(&mut for_scripts, asked.saturating_sub(scripts.calls));
-            scripts.compare(path, &batch, options.first);
+            if let Some(batch) = batches.next() {
+                scripts.compare(path, &batch, options.first);
+            }
         }
         if let Some(path) = &options.player {
             for _ in 0..share.div_ceil(CALLS_A_DUMP) {

@@ -10,6 +10,7 @@ pub enum Act {
     Load,
     Data,
     Fill,
+    Turn,
     Now,
     Cycle,
     Sync,
@@ -26,6 +27,8 @@ pub enum Act {
     New,
     Refused,
     Lent,
+    Climb,
+    Set,
 }
 
 use Act::*;
@@ -43,11 +46,11 @@ const fn mood(calls: u64, acts: &'static [(u64, Act)]) -> Mood {
 
 /// Each as often as its weight. The first has everything.
 #[rustfmt::skip]
-pub const MOODS: [(u64, Mood); 8] = [
+pub const MOODS: [(u64, Mood); 9] = [
     (6, mood(4, &[
         (9, Register), (2, Low), (2, Shape), (1, Load), (6, Data), (2, Now), (2, Cycle), (2, Sync), (1, End),
         (1, Flush), (3, Irq), (1, Trigger), (2, Mute), (3, Drum), (6, Word), (9, Block), (5, Read), (1, Reset),
-        (1, New), (1, Refused), (1, Lent),
+        (1, New), (1, Refused), (1, Lent), (2, Set),
     ])),
     // Tones and noise.
     (5, mood(4, &[
@@ -59,8 +62,8 @@ pub const MOODS: [(u64, Mood); 8] = [
         (1, Irq),
     ])),
     // A queue held full, long enough for its room to be used again.
-    (1, mood(500, &[
-        (3, Fill), (24, Data), (3, Cycle), (1, Sync), (1, Flush), (12, Word), (2, Block), (6, Read), (1, Reset),
+    (2, mood(500, &[
+        (2, Fill), (3, Turn), (24, Data), (3, Cycle), (1, Sync), (1, Flush), (12, Word), (2, Block), (6, Read), (1, Reset),
     ])),
     // Periods 0 and 1 inside and outside the IRQ.
     (4, mood(4, &[
@@ -72,11 +75,18 @@ pub const MOODS: [(u64, Mood); 8] = [
         (24, Drum), (6, Mute), (24, Word), (2, Block), (4, Register), (4, Low), (6, Read), (2, Reset), (2, Refused),
     ])),
     // Envelopes.
-    (4, mood(4, &[(12, Shape), (4, Trigger), (6, Register), (6, Word), (14, Block), (3, Read), (1, Reset), (1, Load)])),
+    (4, mood(4, &[
+        (12, Shape), (4, Trigger), (6, Register), (6, Word), (14, Block), (1, Climb), (3, Read), (1, Reset), (1, Load),
+    ])),
     // The last cycles before 2^64.
     (3, mood(4, &[
         (8, End), (6, Sync), (6, Cycle), (8, Data), (12, Block), (8, Word), (3, Read), (1, Reset), (1, New),
         (1, Refused),
+    ])),
+    // Records that no call leads to.
+    (5, mood(4, &[
+        (24, Set), (4, Register), (2, Low), (2, Shape), (4, Data), (1, Fill), (2, Now), (2, Cycle), (1, Sync), (1, Flush),
+        (2, Irq), (1, Trigger), (1, Mute), (1, Drum), (6, Word), (6, Block), (3, Read), (1, Reset), (1, Lent),
     ])),
 ];
 

@@ -1,11 +1,12 @@
 //! Scripts: a batch to a process of the other side, every line compared, the first difference shrunk.
 
-use crate::SHRINKING;
 use crate::draw::{self, Drawn};
 use crate::other;
 use crate::parting::{Parting, parting};
 use crate::random::Random;
 use crate::shrink::{shortest, smallest};
+use crate::tally::Tally;
+use crate::{BATCH, Options, SHRINKING};
 use oracle::refusal::{self, ACCEPTED};
 use oracle::script::Bench;
 use std::time::Instant;
@@ -22,16 +23,36 @@ pub struct Scripts {
     pub differences: u64,
 }
 
-/// Scripts of so many calls or some more. The first begins on the default chip, each other makes its own.
-pub fn draw_batch(random: &mut Random, wanted: u64) -> Vec<Drawn> {
-    let mut batch = Vec::new();
-    let mut calls = 0;
-    while calls < wanted {
-        let drawn = draw::script(random, batch.is_empty());
-        calls += drawn.calls;
-        batch.push(drawn);
+/// The scripts of a run, as many to a batch as one process gets.
+pub struct Batches {
+    random: Random,
+    pub tally: Tally,
+    count: u64,
+    asked: u64,
+    drawn: u64,
+}
+
+impl Batches {
+    pub fn new(options: &Options) -> Batches {
+        Batches { random: Random(options.seed), tally: Tally::default(), count: options.count, asked: 0, drawn: 0 }
     }
-    batch
+
+    /// The first script begins on the default chip, each other makes its own. None where enough are drawn.
+    pub fn next(&mut self) -> Option<Vec<Drawn>> {
+        while self.drawn >= self.asked {
+            if self.asked >= self.count {
+                return None;
+            }
+            self.asked += BATCH.min(self.count - self.asked);
+        }
+        let mut batch = Vec::new();
+        while self.drawn < self.asked {
+            let drawn = draw::script(&mut self.random, &mut self.tally, batch.is_empty());
+            self.drawn += drawn.calls;
+            batch.push(drawn);
+        }
+        Some(batch)
+    }
 }
 
 impl Scripts {
@@ -87,6 +108,9 @@ fn parts(path: &str, lines: &[String], limit: u64) -> Option<(Parting, u64)> {
 
 /// Ticks that a call would run on this chip, or a few more.
 fn ticks_asked(bench: &Bench, line: &str) -> u64 {
+    if !bench.in_range() {
+        return 0;
+    }
     let (internal, rate, cycles) = bench.chip.clocks();
     let length = match line.strip_prefix("block ") {
         Some(length) => length.parse().unwrap_or(0),

@@ -1,0 +1,144 @@
+//! What was drawn, counted: `--count` prints it.
+
+use oracle::call::{self, Call};
+use oracle::refusal::{ACCEPTED, NO_SUCH_CHANNEL, QUEUE_MAX};
+use oracle::script::Bench;
+use oracle::set::Field;
+use std::collections::{BTreeMap, BTreeSet};
+
+/// Ticks to a word, by their upper ends.
+const TICKS: [u64; 6] = [1, 10, 100, 700, 26_843, u64::MAX];
+
+#[derive(Default)]
+pub struct Tally {
+    counts: BTreeMap<&'static str, u64>,
+    seen: BTreeMap<&'static str, BTreeSet<u64>>,
+    answers: BTreeMap<u8, u64>,
+    ticks: [u64; TICKS.len()],
+    counter: u32,
+    /// The ring was moved by a `set` since the chip was made or reset.
+    moved: bool,
+}
+
+impl Tally {
+    fn count(&mut self, what: &'static str) {
+        *self.counts.entry(what).or_default() += 1;
+    }
+
+    fn see(&mut self, what: &'static str, place: u64) {
+        self.seen.entry(what).or_default().insert(place);
+    }
+
+    pub fn script(&mut self) {
+        self.count("scripts");
+        self.moved = false;
+    }
+
+    /// The call that a line is, on the bench before it.
+    pub fn before(&mut self, line: &str, bench: &Bench) -> Call {
+        let call = call::read(line).unwrap_or_else(|| panic!("not of the form: {line}"));
+        self.count("calls");
+        match call {
+            Call::Port(port, _) => self.see("ports of `port`", port as u64),
+            Call::PortNow(port, _) => self.see("ports of `port_now`", port as u64),
+            Call::ReadPort(port) => self.see("ports of `read_port`", port as u64),
+            Call::Mute(256.., _) | Call::Muted(256..) | Call::Drum(256.., _) => self.count("channels above 255"),
+            Call::Drum(_, Some(sample)) => self.drum(sample),
+            Call::New(..) | Call::Default | Call::Reset => self.moved = false,
+            Call::Set(Field::Head | Field::Count, _) => self.moved = true,
+            Call::Block(length) if bench.in_range() => self.block(length as u64, bench),
+            _ => {}
+        }
+        call
+    }
+
+    fn drum(&mut self, sample: f32) {
+        self.count("drums");
+        let level = sample as f64 / 4.0 * 10_922.0;
+        let step = (sample.abs().next_up() - sample.abs()) as f64 / 4.0 * 10_922.0;
+        let kind = match sample {
+            _ if sample.is_nan() => "drums that are NaN",
+            _ if sample.is_infinite() => "drums that are infinite",
+            _ if sample.is_subnormal() || sample == 0.0 => "drums of 0 and below the normal numbers",
+            _ if sample < 0.0 => "drums below 0",
+            _ if level > 10_924.0 => "drums above the highest level",
+            _ if (level - level.round()).abs() <= 4.0 * step => "drums close to the cut",
+            _ => "other drums",
+        };
+        self.count(kind);
+    }
+
+    fn block(&mut self, length: u64, bench: &Bench) {
+        self.count("blocks and words");
+        let (internal, rate, cycles) = bench.chip.clocks();
+        if length == 0 {
+            return self.count("empty blocks");
+        }
+        let ticks = internal.div_ceil(rate) as u64;
+        let place = TICKS.iter().position(|most| ticks <= *most).unwrap();
+        self.ticks[place] += 1;
+        // The front write beside the ends of the block's words.
+        let Some((stamp, _, _)) = bench.chip.waiting(0) else { return };
+        let Some(after) = stamp.checked_sub(bench.chip.start()) else { return };
+        let words = after as u128 / cycles as u128;
+        if cycles > 2 && words <= length as u128 {
+            match (words, after % cycles) {
+                (1.., 0) => self.count("front stamps at a word's end"),
+                (1.., 1) => self.count("front stamps one after a word's end"),
+                (_, rest) if rest == cycles - 1 && words < length as u128 => {
+                    self.count("front stamps one before a word's end")
+                }
+                _ => {}
+            }
+        }
+    }
+
+    /// The number that it answered, and the bench after it.
+    pub fn after(&mut self, call: Call, number: u8, bench: &Bench) {
+        *self.answers.entry(number).or_default() += 1;
+        match call {
+            Call::Mute(_, false) if number == NO_SUCH_CHANNEL => self.count("`mute N 0` refused"),
+            Call::Set(..) if bench.in_range() => self.count("fields set inside"),
+            Call::Set(..) => self.count("fields set outside"),
+            Call::Port(..) if number == ACCEPTED => self.count("ports written"),
+            _ => {}
+        }
+        self.counter = self.counter.max(bench.chip.envelope().view().0);
+        if bench.chip.envelope().view().0 >= 32_768 {
+            self.count("calls with the envelope's counter from 32,768 up");
+        }
+        let ring = &bench.ring;
+        if ring.fits() {
+            let full = ring.count == QUEUE_MAX as u64;
+            self.see("ring's places", ring.head);
+            if full {
+                self.see("ring's places when full", ring.head);
+            }
+            if !self.moved {
+                self.see("ring's places, by calls alone", ring.head);
+                if full {
+                    self.see("ring's places when full, by calls alone", ring.head);
+                }
+            }
+        }
+    }
+
+    pub fn print(&self) {
+        for (what, seen) in &self.seen {
+            println!("{:>9} of 256 {what}", seen.len());
+        }
+        for (what, count) in &self.counts {
+            println!("{count:>9} {what}");
+        }
+        println!("{:>9} highest counter of the envelope", self.counter);
+        let mut least = 1;
+        for (most, count) in TICKS.iter().zip(self.ticks) {
+            let most_text = if *most == u64::MAX { "up".into() } else { format!("to {most}") };
+            println!("{count:>9} blocks and words of {least} {most_text} ticks a word");
+            least = most.wrapping_add(1);
+        }
+        for (number, count) in &self.answers {
+            println!("{count:>9} calls that answered {number}");
+        }
+    }
+}
