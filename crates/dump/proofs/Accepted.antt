@@ -6,11 +6,12 @@ use Prim.Native.Nat.{ℕ, zero, suc, _+_, _/_, _≤_, _<_}
 use native.Mathlib.Omega.{arith}
 use lib.ListN.{length}
 use Rattle.laws.proofs.Tests.{by-cond, by-lt}
-use Rattle.text.specs.Bytes.{bytes}
-use Rattle.text.specs.Lines.{lineAt}
-use Rattle.dump.specs.Checked.{acceptedWith, entryAt, masterNo, rateNo, wordsNo, framesNo, frameAt, framesFrom, sized, checked}
-use Rattle.dump.specs.declared.whole.Verdict.{Verdict}
-use Rattle.dump.proofs.Ranges.{master-range, rate-range, words-range, frames-range}
+use Rattle.text_lines.specs.Bytes.{bytes}
+use Rattle.text_lines.specs.Lines.{lineAt}
+use Rattle.dump_lines.specs.OneLine.{lineEntryAt, masterLineNo, rateLineNo, wordsLineNo, framesLineNo, frameAt}
+use Rattle.dump.specs.Checked.{acceptedWith, framesFrom, sized, verdictOf}
+use Rattle.dump.specs.declared.Verdict.{Verdict}
+use Rattle.dump_lines.proofs.Ranges.{master-range, rate-range, words-range, frames-range}
 
 -- the place of the line f lines on
 abbrev pub placeFrom : List ℕ → ℕ → ℕ → ℕ
@@ -61,23 +62,23 @@ record Paced (master rate : ℕ) : Type 0 where
 sized-laid : (t : List ℕ) (master rate at : ℕ) → Paced master rate → sized t master rate at .no ≡ 0 → Laid t (sized t master rate at)
 unfolding sized
 sized-laid t master rate at p =
-    let three = entryAt (bytes "words=") t at in
-    let four = entryAt (bytes "frames=") t (three .next) in
+    let three = lineEntryAt (bytes "words=") t at in
+    let four = lineEntryAt (bytes "frames=") t (three .next) in
     let good = acceptedWith master rate (three .value) (four .value) (four .next) in
-    by-lt (λ (v : Verdict). v .no ≡ 0 → Laid t v) 0 (wordsNo three) (λ h e. refused-not t h e)
-    (λ h. by-lt (λ (v : Verdict). v .no ≡ 0 → Laid t v) 0 (framesNo four) (λ g e. refused-not t g e)
+    by-lt (λ (v : Verdict). v .no ≡ 0 → Laid t v) 0 (wordsLineNo three) (λ h e. refused-not t h e)
+    (λ h. by-lt (λ (v : Verdict). v .no ≡ 0 → Laid t v) 0 (framesLineNo four) (λ g e. refused-not t g e)
     (λ g e.
     let r = run t good (four .value) 5 (four .next) e in
     rw (r .same)
     (record { top = p .top; some = p .some; slow = p .slow; words = words-range three h .1; frames = frames-range four g .1; frame = r .frame })))
 
-pub accepted-laid : (t : List ℕ) → checked t .no ≡ 0 → Laid t (checked t)
-unfolding checked
+pub accepted-laid : (t : List ℕ) → verdictOf t .no ≡ 0 → Laid t (verdictOf t)
+unfolding verdictOf
 accepted-laid t =
-    let one = entryAt (bytes "master=") t 0 in
-    let two = entryAt (bytes "rate=") t (one .next) in
+    let one = lineEntryAt (bytes "master=") t 0 in
+    let two = lineEntryAt (bytes "rate=") t (one .next) in
     by-lt (λ (v : Verdict). v .no ≡ 0 → Laid t v) 65536 (length t) (λ h e. absurd (omega arith))
-    (λ h. by-lt (λ (v : Verdict). v .no ≡ 0 → Laid t v) 0 (masterNo one) (λ g e. refused-not t g e)
-    (λ g. by-lt (λ (v : Verdict). v .no ≡ 0 → Laid t v) 0 (rateNo (one .value) two) (λ g e. refused-not t g e)
+    (λ h. by-lt (λ (v : Verdict). v .no ≡ 0 → Laid t v) 0 (masterLineNo one) (λ g e. refused-not t g e)
+    (λ g. by-lt (λ (v : Verdict). v .no ≡ 0 → Laid t v) 0 (rateLineNo (one .value) two) (λ g e. refused-not t g e)
     (λ k. sized-laid t (one .value) (two .value) (two .next)
     (record { top = master-range one g; some = rate-range two (one .value) k .0; slow = rate-range two (one .value) k .1 }))))

@@ -7,10 +7,11 @@ use native.Mathlib.Omega.{arith}
 use borrow.Author.Tests.{lt-ltb, le-ltb}
 use lib.ListN.{length}
 use Rattle.refusals.specs.Numbers.{lineNotOfForm, bytesAfterTheEnd}
-use Rattle.text.specs.Lines.{lineAt}
-use Rattle.text.specs.declared.lines.Line.{Line}
-use Rattle.dump.specs.Checked.{refusedAt, frameAt, framesFrom}
-use Rattle.dump.specs.declared.whole.Verdict.{Verdict}
+use Rattle.text_lines.specs.Lines.{lineAt}
+use Rattle.text_lines.specs.declared.Line.{Line}
+use Rattle.dump_lines.specs.OneLine.{frameAt}
+use Rattle.dump.specs.Checked.{refusedAt, framesFrom}
+use Rattle.dump.specs.declared.Verdict.{Verdict}
 
 module _ (t : List ℕ) (good : Verdict) (k line at : ℕ) where
   pub frames-on : frameAt t at ≡ true → framesFrom t good (suc k) line at ≡ framesFrom t good k (line + 1) (lineAt t at .next)

@@ -1,4 +1,3 @@
 pub mod Framing
-pub mod Ranges
 pub mod Header
 pub mod Accepted

@@ -1,10 +1,102 @@
-// The dump text. 01, "The dump player": its four header lines and its frames, the check of the whole, and the reader.
-mod reading;
-mod whole;
+// The whole dump, checked line by line. 01, "The dump player".
+ghost use mathlib.Core.Path.{_≡_};
+ghost use Rattle.dump.specs.Checked.{framesFrom, refusedAt, sized, verdictOf};
+use dump_lines::frame_at;
+use dump_lines::frames_line_no;
+use dump_lines::line_entry_at;
+use dump_lines::master_line_no;
+use dump_lines::rate_line_no;
+use dump_lines::words_line_no;
 
-pub use reading::DumpReader;
-pub use reading::next_line;
-pub use reading::reader;
-pub use whole::Verdict;
-pub use whole::check;
-pub use whole::is_frame;
+pub const LONGEST_DUMP: usize = 65_536;
+
+// `no` 0 is accepted: `line` is 0, and `body` is the place of the first frame's line.
+// Any other number is 01's refusal, at `line`, and the rest is 0.
+pub struct Verdict {
+    pub no: u8,
+    pub line: u32,
+    pub master: u32,
+    pub rate: u32,
+    pub words: u16,
+    pub frames: u16,
+    pub body: usize,
+}
+
+pub fn check(text: &[u8]) -> Verdict
+    ensures { λ r. ⌜ r ≡ verdictOf (now (text .entry)) ⌝ }
+{
+    if text.len() > LONGEST_DUMP {
+        return refused(refusals::DUMP_TOO_LONG, 0);
+    }
+    let one = line_entry_at(b"master=", text, 0);
+    let first = master_line_no(one);
+    if first > 0 {
+        return refused(first, 1);
+    }
+    let two = line_entry_at(b"rate=", text, one.next);
+    let second = rate_line_no(one.value, two);
+    if second > 0 {
+        return refused(second, 2);
+    }
+    sizes(text, one.value as u32, two.value as u32, two.next)
+}
+
+// Lines 3 and 4, and then the frames.
+fn sizes(text: &[u8], master: u32, rate: u32, at: usize) -> Verdict
+    ensures { λ r. ⌜ r ≡ sized (now (text .entry)) master rate at ⌝ }
+{
+    let three = line_entry_at(b"words=", text, at);
+    let third = words_line_no(three);
+    if third > 0 {
+        return refused(third, 3);
+    }
+    let four = line_entry_at(b"frames=", text, three.next);
+    let fourth = frames_line_no(four);
+    if fourth > 0 {
+        return refused(fourth, 4);
+    }
+    let good = Verdict {
+        no: refusals::ACCEPTED,
+        line: 0,
+        master: master,
+        rate: rate,
+        words: three.value as u16,
+        frames: four.value as u16,
+        body: four.next,
+    };
+    all_frames(text, good, four.value as u16, four.next)
+}
+
+fn all_frames(text: &[u8], good: Verdict, frames: u16, body: usize) -> Verdict
+    ensures { λ r. ⌜ r ≡ framesFrom (now (text .entry)) good frames 5 body ⌝ }
+{
+    let mut at = body;
+    let mut f: u16 = 0;
+    while f < frames {
+        if frame_at(text, at) {
+            let line = text_lines::line_at(text, at);
+            at = line.next;
+            f += 1;
+        } else {
+            return refused(refusals::LINE_NOT_OF_FORM, 5 + f as u32);
+        }
+    }
+    if at < text.len() {
+        return refused(refusals::BYTES_AFTER_THE_END, 5 + frames as u32);
+    }
+    good
+}
+
+fn refused(number: u8, line: u32) -> Verdict
+    ensures { λ r. ⌜ r ≡ refusedAt number line ⌝ }
+{
+    Verdict {
+        no: number,
+        line: line,
+        master: 0,
+        rate: 0,
+        words: 0,
+        frames: 0,
+        body: 0,
+    }
+}

@@ -11,9 +11,9 @@ use lib.Dec.{eqb}
 use lib.ListN.{length, getD, set, length-set}
 use lib.Seq.{getD-set-same, getD-set-other}
 use Rattle.laws.proofs.Tests.{by-same}
-use Rattle.text.specs.Fields.{allHex, hexByte}
-use Rattle.text.proofs.Called.{both-held}
-use Rattle.dump.specs.Checked.{isFrame}
+use Rattle.text_fields.specs.Fields.{allHex, hexByte}
+use Rattle.laws.proofs.Lists.{both-parts}
+use Rattle.dump_lines.specs.OneLine.{isFrame}
 use Rattle.registers.specs.Registers.{applyRegister, loadedFrom}
 use Rattle.registers.specs.declared.Voice.{Voice}
 use Rattle.dump_frames.specs.Frame.{writesFrom, frameWrites, written, Registers}
@@ -22,7 +22,7 @@ use Rattle.dump_frames.specs.Frame.{writesFrom, frameWrites, written, Re
 module _ (value : List ℕ) (e : isFrame value ≡ true) where
   parts : (eqb (length value) 28 ≡ true) × (allHex value ≡ true)
   unfolding isFrame
-  parts = both-held (eqb (length value) 28) (allHex value) e
+  parts = both-parts (eqb (length value) 28) (allHex value) e
 
   pub frame-hex : allHex value ≡ true
   frame-hex = parts .1

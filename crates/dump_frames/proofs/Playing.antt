@@ -6,7 +6,7 @@ use Prim.Native.Nat.{ℕ}
 use lib.Dec.{eqb}
 use Rattle.laws.proofs.Tests.{on-eq, on-ne, on-no, on-yes, on-true}
 use Rattle.refusals.specs.Numbers.{lineNotOfForm, outOfRange}
-use Rattle.dump.specs.Checked.{isFrame}
+use Rattle.dump_lines.specs.OneLine.{isFrame}
 use Rattle.chip.specs.declared.Chip.{Chip}
 use Rattle.chip.specs.Range.{chipIn}
 use Rattle.answers.specs.declared.Answered.{Answered}

@@ -9,9 +9,10 @@ use borrow.Author.Tests.{le-ltb, lt-leb, ne-eqb}
 use lib.Dec.{eqb}
 use lib.ListN.{length}
 use Rattle.laws.proofs.Tests.{by-cond}
-use Rattle.text.specs.Bytes.{bytes}
-use Rattle.text.specs.Lines.{lineAt, valueAt}
-use Rattle.dump.specs.Checked.{checked, frameAt, isFrame}
+use Rattle.text_lines.specs.Bytes.{bytes}
+use Rattle.text_lines.specs.Lines.{lineAt, valueAt}
+use Rattle.dump_lines.specs.OneLine.{frameAt, isFrame}
+use Rattle.dump.specs.Checked.{verdictOf}
 use Rattle.dump.proofs.Accepted.{placeFrom, Laid, accepted-laid}
 use Rattle.registers.specs.declared.Voice.{Voice}
 use Rattle.registers.specs.Range.{VoiceInRange}
@@ -67,14 +68,14 @@ unfolding afterWords
 words-on zero c = record { cycles = refl; start = omega arith }
 words-on (suc n) c = let z : 1 + n ≡ suc n = omega arith in rw z at (joined 1 n (one-on c) (words-on n (afterOne c)))
 
-place-is : (t : List ℕ) (f : ℕ) → placeOf t f ≡ placeFrom t (checked t .body) f
+place-is : (t : List ℕ) (f : ℕ) → placeOf t f ≡ placeFrom t (verdictOf t .body) f
 unfolding placeOf
 place-is t zero = refl
 place-is t (suc f) = ap (λ (p : ℕ). lineAt t p .next) (place-is t f)
 
 -- the first chip of a dump
 abbrev made : List ℕ → Chip
-made t = withClocks (checked t .master) (checked t .rate) .chip
+made t = withClocks (verdictOf t .master) (verdictOf t .rate) .chip
 
 made-start : (master rate : ℕ) → withClocks master rate .chip .core .start ≡ 0
 unfolding withClocks madeOf fresh
@@ -84,16 +85,16 @@ made-start master rate =
 -- the chip before frame f
 record Before (t : List ℕ) (f : ℕ) : Type 0 where
   range : InRange (chipBefore t f)
-  on : On (made t) (chipBefore t f) (f * checked t .words)
+  on : On (made t) (chipBefore t f) (f * verdictOf t .words)
 
 before : (t : List ℕ) (f : ℕ) → Before t f
 unfolding chipBefore
 before t zero =
-    let z : 0 * checked t .words ≡ 0 = omega arith in
-    record { range = with-clocks-kept (checked t .master) (checked t .rate); on = rw z (record { cycles = refl; start = omega arith }) }
+    let z : 0 * verdictOf t .words ≡ 0 = omega arith in
+    record { range = with-clocks-kept (verdictOf t .master) (verdictOf t .rate); on = rw z (record { cycles = refl; start = omega arith }) }
 before t (suc f) =
     let b = before t f in
-    let n = checked t .words in
+    let n = verdictOf t .words in
     let d = frameChip (valueOf t f) (chipBefore t f) in
     let z : f * n + 0 + n ≡ suc f * n = omega arith in
     record {
@@ -101,9 +102,9 @@ before t (suc f) =
       on = rw z at (joined (f * n + 0) n (joined (f * n) 0 (b .on) (frame-on (valueOf t f) (chipBefore t f))) (words-on n d));
     }
 
-module _ (t : List ℕ) (ok : checked t .no ≡ 0) (f : ℕ) (h : f < checked t .frames) where
+module _ (t : List ℕ) (ok : verdictOf t .no ≡ 0) (f : ℕ) (h : f < verdictOf t .frames) where
   abbrev n : ℕ
-  n = checked t .words
+  n = verdictOf t .words
 
   abbrev c : Chip
   c = chipBefore t f
@@ -122,11 +123,11 @@ module _ (t : List ℕ) (ok : checked t .no ≡ 0) (f : ℕ) (h : f < checked t 
       let b = before t f in
       let o : On (made t) d (f * n + 0) = joined (f * n) 0 (b .on) (frame-on (valueOf t f) c) in
       let k = made t .core .clocks .cycles in
-      let small : k ≤ 4294967296 = let s : k < 4294967296 = core-runs (with-clocks-kept (checked t .master) (checked t .rate)) .cycles in omega arith in
+      let small : k ≤ 4294967296 = let s : k < 4294967296 = core-runs (with-clocks-kept (verdictOf t .master) (verdictOf t .rate)) .cycles in omega arith in
       let m : f * n + n ≤ 1900 * 4096 = let z : f * n + n ≡ suc f * n = omega arith in rw z (mul-le-mul {n₁ = suc f} {m₁ = n} {n₂ = 1900} {m₂ = 4096} (omega (arith, l .frames)) (l .words)) in
       let all : (f * n + n) * k ≤ 1900 * 4096 * 4294967296 = mul-le-mul {n₁ = f * n + n} {m₁ = k} {n₂ = 1900 * 4096} {m₂ = 4294967296} m small in
       let split : (f * n + n) * k ≡ (f * n + 0) * k + n * k = omega arith in
-      let from-0 : made t .core .start ≡ 0 = made-start (checked t .master) (checked t .rate) in
+      let from-0 : made t .core .start ≡ 0 = made-start (verdictOf t .master) (verdictOf t .rate) in
       let e : d .core .clocks .cycles ≡ k = o .cycles in
       rw e (omega (arith, all, split, o .start, from-0))
 
@@ -151,10 +152,10 @@ module _ (t : List ℕ) (ok : checked t .no ≡ 0) (f : ℕ) (h : f < checked t 
   fills out e = rw (passes (before t f .range), good, passes (frame-kept (valueOf t f) (before t f .range)), e, number)
 
 -- the dump's clocks are accepted, so its chip is made of them and not of the default ones
-pub makes : (t : List ℕ) → checked t .no ≡ 0
-    → withClocks (checked t .master) (checked t .rate) ≡ answered 0 (madeOf (clocksOf (checked t .master) (checked t .rate)))
+pub makes : (t : List ℕ) → verdictOf t .no ≡ 0
+    → withClocks (verdictOf t .master) (verdictOf t .rate) ≡ answered 0 (madeOf (clocksOf (verdictOf t .master) (verdictOf t .rate)))
 unfolding withClocks clocksNo
 makes t ok =
     let l = accepted-laid t ok in
-    let some : checked t .rate ≡ 0 → ⊥ = λ e. absurd (omega (arith, l .some)) in
+    let some : verdictOf t .rate ≡ 0 → ⊥ = λ e. absurd (omega (arith, l .some)) in
     rw (le-ltb 1073741823 _ (l .top), ne-eqb _ 0 some, le-ltb _ _ (l .slow))

@@ -6,8 +6,8 @@ use Prim.Native.Nat.{ℕ, zero, suc, _+_, _<_}
 use lib.Dec.{eqb}
 use lib.ListN.{length, getD}
 use Rattle.refusals.specs.Numbers.{accepted, lineNotOfForm, outOfRange}
-use Rattle.text.specs.Fields.{hexByte}
-use Rattle.dump.specs.Checked.{isFrame}
+use Rattle.text_fields.specs.Fields.{hexByte}
+use Rattle.dump_lines.specs.OneLine.{isFrame}
 use Rattle.registers.specs.Registers.{applyRegister}
 use Rattle.registers.specs.declared.Voice.{Voice}
 use Rattle.chip.specs.declared.Chip.{Chip}

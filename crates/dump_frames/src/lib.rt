@@ -2,9 +2,9 @@
 ghost use mathlib.Core.Bool.{true};
 ghost use mathlib.Core.Path.{_≡_};
 ghost use lib.ListN.{length};
-ghost use Rattle.dump.specs.Checked.{isFrame};
-ghost use Rattle.text.specs.Bytes.{bytes};
-ghost use Rattle.text.specs.Lines.{valueAt};
+ghost use Rattle.dump_lines.specs.OneLine.{isFrame};
+ghost use Rattle.text_lines.specs.Bytes.{bytes};
+ghost use Rattle.text_lines.specs.Lines.{valueAt};
 ghost use Rattle.calls_words.specs.Blocks.{blockRefused};
 ghost use Rattle.dump_frames.specs.Frame.{Registers, frameBuffer, framePlayed};
 use answers::Blocked;
@@ -17,7 +17,7 @@ pub fn play_frame(chip: Chip, text: &[u8], at: usize, out: &mut [u16]) -> Blocke
     ensures answer { λ r. ⌜ r ≡ framePlayed (valueAt (bytes "regs=") (now (text .entry)) at) (length (now (out .entry))) chip ⌝ }
     ensures buffer { λ r. ⌜ now (out .exit) ≡ frameBuffer (valueAt (bytes "regs=") (now (text .entry)) at) (now (out .entry)) chip ⌝ }
 {
-    play_value(chip, text::value_at(b"regs=", text, at), out)
+    play_value(chip, text_lines::value_at(b"regs=", text, at), out)
 }
 
 fn play_value(chip: Chip, value: &[u8], out: &mut [u16]) -> Blocked
@@ -27,7 +27,7 @@ fn play_value(chip: Chip, value: &[u8], out: &mut [u16]) -> Blocked
     if !chip::in_range(chip) {
         return refused(chip, refusals::OUT_OF_RANGE);
     }
-    if !dump::is_frame(value) {
+    if !dump_lines::is_frame(value) {
         return refused(chip, refusals::LINE_NOT_OF_FORM);
     }
     let loaded = calls_registers::load_registers(chip, registers_of(value));
@@ -46,7 +46,7 @@ fn registers_of(value: &[u8]) -> [u8; 16]
     let mut registers = [0u8; 16];
     let mut i = 0;
     while i < 14 {
-        registers[i] = text::hex_byte(value, i);
+        registers[i] = text_fields::hex_byte(value, i);
         i += 1;
     }
     registers

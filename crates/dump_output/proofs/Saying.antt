@@ -4,7 +4,7 @@ use mathlib.Core.List.{List, _++_}
 use Prim.Native.Nat.{ℕ, _^_, _≤_, _<_}
 use native.Mathlib.Omega.{arith}
 use lib.ListN.{length, replicate, length-append}
-use Rattle.text.specs.Bytes.{bytes}
+use Rattle.text_lines.specs.Bytes.{bytes}
 use Rattle.text_put.specs.Text.{numberText, laid, placeAfter}
 use Rattle.text_put.proofs.Following.{then, number-few}
 use Rattle.dump_output.specs.Printed.{refusalText, totalText, textOf}

@@ -5,8 +5,8 @@ use mathlib.Core.List.{List, _++_}
 use lib.Dec.{eqb}
 use lib.ListN.{replicate}
 use Rattle.refusals.specs.Numbers.{accepted}
-use Rattle.text.specs.Bytes.{bytes}
-use Rattle.dump.specs.Checked.{checked}
+use Rattle.text_lines.specs.Bytes.{bytes}
+use Rattle.dump.specs.Checked.{verdictOf}
 use Rattle.dump_frames.specs.Whole.{wordsIn}
 use Rattle.text_put.specs.Text.{laid, numberText, placeAfter}
 use Rattle.dump_output.specs.Words.{linesOf}
@@ -23,7 +23,7 @@ totalText words = bytes "words=" ++ numberText words 10
 -- The whole output: a refusal, or the total and the words of each frame.
 unfoldable pub printed : List ℕ → List ℕ
 printed text =
-    let v = checked text in
+    let v = verdictOf text in
     cond (eqb (v .no) accepted) (totalText (v .words * v .frames) ++ linesOf (wordsIn text (v .frames)))
     (refusalText (v .no) (v .line))
 

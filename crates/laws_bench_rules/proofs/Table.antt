@@ -1,9 +1,10 @@
 -- Every line of the table comes out by computing. Assumes nothing.
 use mathlib.Core.Path.{refl}
 use lib.Ieee.{mul, div, ofInt}
-use Rattle.text.specs.Fields.{needless, digits, decimalOf, hexValue, allHex, hexByte}
-use Rattle.text.specs.Lines.{span, lineAt, startsWith, valueAt}
-use Rattle.dump.specs.Checked.{entryAt as lineEntryAt, masterNo, rateNo, wordsNo, framesNo, isFrame, frameAt, framesFrom, sized, checked}
+use Rattle.text_fields.specs.Fields.{needless, digits, decimalOf, hexValue, allHex, hexByte}
+use Rattle.text_lines.specs.Lines.{span, lineAt, startsWith, valueAt}
+use Rattle.dump_lines.specs.OneLine.{lineEntryAt, masterLineNo, rateLineNo, wordsLineNo, framesLineNo, isFrame, frameAt}
+use Rattle.dump.specs.Checked.{framesFrom, sized, verdictOf}
 use Rattle.tables.specs.Envelope.{shapeEntry, entryAt}
 use Rattle.tone.specs.Tone.{toneSet, toneTick}
 use Rattle.noise.specs.Noise.{registerStep, outputBy, noiseTick}
@@ -17,6 +18,7 @@ use Rattle.mixer.specs.Mix.{channelAt, putChannel, setMute, setDrum, mixed}
 use Rattle.registers.specs.Registers.{pairAt, tonePeriodSet, noisePeriodSet, gatesSet, envelopePeriodSet, shapeSet, voiceSet, masked, applyRegister}
 use Rattle.registers.specs.Reset.{voiceReset}
 use Rattle.queue.specs.Waiting.{writesFrom, waiting, due, queueIn}
+use Rattle.registers.specs.Writes.{appliedInOrder}
 use Rattle.registers.specs.Writes.{appliedInOrder}
 use Rattle.queue_flush.specs.Applied.{registerWrites}
 use Rattle.queue_drain.specs.Drain.{drain}
@@ -38,7 +40,7 @@ use Rattle.laws_bench_rules.specs.Setups.{ticks, shape8, drumAlone, rese
 use Rattle.laws_bench_rules.specs.Table.{Table}
 
 pub table : Table
-unfolding ticks shape8 drumAlone resetAfter31 needless digits decimalOf hexValue allHex hexByte span lineAt startsWith valueAt lineEntryAt masterNo rateNo wordsNo framesNo isFrame frameAt framesFrom sized checked shapeEntry entryAt toneSet toneTick registerStep outputBy noiseTick nextPosition envelopeTick placeOf envelopeLevel tick edgesOf toneAt putTone tonesSet powerOnEdges generatorsReset gatesFrom gateOf drumOut heard sounded levelUsed gatedLevel loudnessOf channelAt putChannel setMute setDrum mixed pairAt tonePeriodSet noisePeriodSet gatesSet envelopePeriodSet shapeSet voiceSet masked applyRegister voiceReset writesFrom waiting due appliedInOrder registerWrites drain queueIn ticking ticked drained ranOf mixedOf wordOf afterWords ticksOf wordsOf clocksNo clocksIn bytesIn toneIn allOrNone noiseIn envelopeIn generatorsIn gatesIn voiceIn coreIn chipIn madeOf fresh withClocks resetOf resetCall writeRegister readRegister setChannelMute setDrumSampleOverride blockNumber blocked blockBuffer sampled frameWrites frameChip framePlace chipBefore frameWords wordsIn spelt linesOf totalText printed mul div ofInt
+unfolding ticks shape8 drumAlone resetAfter31 needless digits decimalOf hexValue allHex hexByte span lineAt startsWith valueAt lineEntryAt masterLineNo rateLineNo wordsLineNo framesLineNo isFrame frameAt framesFrom sized verdictOf shapeEntry entryAt toneSet toneTick registerStep outputBy noiseTick nextPosition envelopeTick placeOf envelopeLevel tick edgesOf toneAt putTone tonesSet powerOnEdges generatorsReset gatesFrom gateOf drumOut heard sounded levelUsed gatedLevel loudnessOf channelAt putChannel setMute setDrum mixed pairAt tonePeriodSet noisePeriodSet gatesSet envelopePeriodSet shapeSet voiceSet masked applyRegister voiceReset writesFrom waiting due appliedInOrder registerWrites drain queueIn ticking ticked drained ranOf mixedOf wordOf afterWords ticksOf wordsOf clocksNo clocksIn bytesIn toneIn allOrNone noiseIn envelopeIn generatorsIn gatesIn voiceIn coreIn chipIn madeOf fresh withClocks resetOf resetCall writeRegister readRegister setChannelMute setDrumSampleOverride blockNumber blocked blockBuffer sampled frameWrites frameChip framePlace chipBefore frameWords wordsIn spelt linesOf totalText printed mul div ofInt
 table =
     record {
       seed = refl;

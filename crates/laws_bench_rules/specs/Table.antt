@@ -11,7 +11,7 @@ use Rattle.answers.specs.Answers.{answered, byteAnswer}
 use Rattle.calls_making.specs.Making.{fresh, withClocks}
 use Rattle.calls_registers.specs.Stored.{readRegister}
 use Rattle.calls_words.specs.Blocks.{blocked, sampled}
-use Rattle.text.specs.Bytes.{bytes}
+use Rattle.text_lines.specs.Bytes.{bytes}
 use Rattle.dump_output.specs.Printed.{printed}
 use Rattle.laws_bench_rules.specs.Setups.{noiseAfter, envelopeAfter, ticksAfter, shape8, drumAlone, resetAfter31}
 

@@ -3,8 +3,8 @@ use mathlib.Core.List.{List}
 use mathlib.Core.Path.{_≡_, _∙_, ap}
 use Prim.Native.Nat.{ℕ}
 use denote.Ref.{RefT}
-use Rattle.text.specs.declared.lines.Line.{Line}
-use Rattle.dump.specs.declared.reading.DumpReader.{DumpReader}
+use Rattle.text_lines.specs.declared.Line.{Line}
+use Rattle.dump_reader.specs.declared.DumpReader.{DumpReader}
 use Rattle.laws_one_answer.specs.Dump.{Played}
 use Rattle.laws_one_answer.proofs.Laws.{same, both, by-answer, by-buffer}
 

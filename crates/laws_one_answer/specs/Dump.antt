@@ -1,14 +1,14 @@
 -- The calls of the dump player and of `exports` are settled, what they leave in lent buffers included (`Settled`). Assumes nothing.
 use denote.Ref.{now}
-use Rattle.text.proofs.decimal
-use Rattle.text.proofs.all_hex as all-hex
-use Rattle.text.proofs.hex_byte as hex-byte
-use Rattle.text.proofs.line_at as line-at
-use Rattle.text.proofs.value_at as value-at
-use Rattle.dump.proofs.reader
-use Rattle.dump.proofs.next_line as next-line
+use Rattle.text_fields.proofs.decimal
+use Rattle.text_fields.proofs.all_hex as all-hex
+use Rattle.text_fields.proofs.hex_byte as hex-byte
+use Rattle.text_lines.proofs.line_at as line-at
+use Rattle.text_lines.proofs.value_at as value-at
+use Rattle.dump_reader.proofs.reader
+use Rattle.dump_reader.proofs.next_line as next-line
 use Rattle.dump.proofs.check
-use Rattle.dump.proofs.is_frame as is-frame
+use Rattle.dump_lines.proofs.is_frame as is-frame
 use Rattle.dump_frames.proofs.play_frame as play-frame
 use Rattle.text_put.proofs.put_bytes as put-bytes
 use Rattle.text_put.proofs.put_number as put-number

@@ -6,11 +6,11 @@ use native.Mathlib.Numerals.{add-one}
 use native.Mathlib.Nat.{mul-le-mul}
 use native.Mathlib.Omega.{arith}
 use lib.ListN.{length}
-use Rattle.text.specs.Bytes.{bytes}
-use Rattle.text.specs.Lines.{lineAt, valueAt}
-use Rattle.text.specs.declared.lines.Line.{Line}
-use Rattle.dump.specs.Checked.{checked}
-use Rattle.dump.specs.declared.whole.Verdict.{Verdict}
+use Rattle.text_lines.specs.Bytes.{bytes}
+use Rattle.text_lines.specs.Lines.{lineAt, valueAt}
+use Rattle.text_lines.specs.declared.Line.{Line}
+use Rattle.dump.specs.Checked.{verdictOf}
+use Rattle.dump.specs.declared.Verdict.{Verdict}
 use Rattle.dump.proofs.Accepted.{accepted-laid}
 use Rattle.chip.specs.declared.Chip.{Chip}
 use Rattle.answers.specs.declared.Answered.{Answered}
@@ -22,21 +22,21 @@ use Rattle.dump_frames.proofs.Whole.{leaves, fills}
 
 -- where frame f stands, and the chip before it
 pub record Playing (t : List ℕ) (v : Verdict) (words : List ℕ) (chip : Chip) (at f : ℕ) : Type 0 where
-  pub checks : v ≡ checked t
+  pub checks : v ≡ verdictOf t
   pub accepts : v .no ≡ 0
   pub long : length words ≡ v .words
   pub place : at ≡ placeOf t f
   pub before : chip ≡ chipBefore t f
 
 module _ {t : List ℕ} {v : Verdict} {words : List ℕ} {chip : Chip} {at f : ℕ} (m : Playing t v words chip at f) where
-  ok : checked t .no ≡ 0
+  ok : verdictOf t .no ≡ 0
   ok = rw (m .checks) at (m .accepts)
 
-  same-words : length words ≡ checked t .words
+  same-words : length words ≡ verdictOf t .words
   same-words = m .long ∙ ap (λ (r : Verdict). r .words) (m .checks)
 
   module _ (h : f < v .frames) where
-    inside : f < checked t .frames
+    inside : f < verdictOf t .frames
     inside = rw (m .checks) at h
 
     pub frame-leaves : {b : Blocked} → b ≡ framePlayed (valueAt (bytes "regs=") t at) (length words) chip → b .chip ≡ chipBefore t (f + 1)
@@ -51,13 +51,13 @@ module _ {t : List ℕ} {v : Verdict} {words : List ℕ} {chip : Chip} {at f : �
   playing-on k e p =
       record { checks = m .checks; accepts = m .accepts; long = k ∙ m .long; place = rw (add-one, p, m .place); before = e }
 
-pub playing-start : {t : List ℕ} {v : Verdict} {words : List ℕ} → v ≡ checked t → v .no ≡ 0 → length words ≡ v .words
+pub playing-start : {t : List ℕ} {v : Verdict} {words : List ℕ} → v ≡ verdictOf t → v .no ≡ 0 → length words ≡ v .words
     → {a : Answered} → a ≡ withClocks (v .master) (v .rate) → Playing t v words (a .chip) (v .body) 0
 unfolding placeOf chipBefore
 playing-start q z l p = record { checks = q; accepts = z; long = l; place = rw q; before = rw (p, q) }
 
 -- the sizes of an accepted dump
-module _ (t : List ℕ) {v : Verdict} (q : v ≡ checked t) (z : v .no ≡ 0) where
+module _ (t : List ℕ) {v : Verdict} (q : v ≡ verdictOf t) (z : v .no ≡ 0) where
   pub words-few : v .words ≤ 4096
   words-few = rw q (accepted-laid t (rw q at z) .words)
 

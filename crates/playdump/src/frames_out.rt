@@ -4,11 +4,11 @@ use dump::Verdict;
 ghost use mathlib.Core.Path.{_≡_};
 ghost use Prim.Native.Nat.{_+_, _<_, _≤_};
 ghost use lib.ListN.{length};
-ghost use Rattle.dump.specs.Checked.{checked};
+ghost use Rattle.dump.specs.Checked.{verdictOf};
 ghost use Rattle.dump_frames.specs.Whole.{chipBefore, frameWords, placeOf};
 
 pub fn play_all(text: &[u8], verdict: Verdict)
-    requires { ⌜ verdict ≡ checked (now text) ⌝ }
+    requires { ⌜ verdict ≡ verdictOf (now text) ⌝ }
     requires { ⌜ verdict .no ≡ 0 ⌝ }
 {
     let mut words = [0u16; 4096];
@@ -18,7 +18,7 @@ pub fn play_all(text: &[u8], verdict: Verdict)
 }
 
 fn play_frames(text: &[u8], verdict: Verdict, words: &mut [u16], lines: &mut [u8])
-    requires { ⌜ verdict ≡ checked (now text) ⌝ }
+    requires { ⌜ verdict ≡ verdictOf (now text) ⌝ }
     requires { ⌜ verdict .no ≡ 0 ⌝ }
     requires { ⌜ length (now words) ≡ verdict .words ⌝ }
 {
@@ -30,7 +30,7 @@ fn play_frames(text: &[u8], verdict: Verdict, words: &mut [u16], lines: &mut [u8
     while f < verdict.frames {
         chip = play_frame(text, verdict, f, at, chip, words);
         used = print(lines, used, words);
-        let line = text::line_at(text, at);
+        let line = text_lines::line_at(text, at);
         at = line.next;
         f += 1;
     }
@@ -46,7 +46,7 @@ fn play_frame(
     chip: Chip,
     words: &mut [u16],
 ) -> Chip
-    requires { ⌜ verdict ≡ checked (now text) ⌝ }
+    requires { ⌜ verdict ≡ verdictOf (now text) ⌝ }
     requires { ⌜ verdict .no ≡ 0 ⌝ }
     requires { ⌜ f < verdict .frames ⌝ }
     requires { ⌜ at ≡ placeOf (now text) f ⌝ }

@@ -30,14 +30,14 @@ fn check_all(input: &[u8]) {
 
 // The text whose header stands at a place, and the place after it; with no such header, or too few bytes after it, the place stays.
 fn check_one(input: &[u8], at: usize) -> usize {
-    let size = text::decimal(text::value_at(b"text=", input, at));
+    let size = text_fields::decimal(text_lines::value_at(b"text=", input, at));
     if size.bad {
         return at;
     }
     if size.value > LONGEST_TEXT {
         return at;
     }
-    let header = text::line_at(input, at);
+    let header = text_lines::line_at(input, at);
     let start = header.next;
     let n = size.value as usize;
     if start > input.len() {

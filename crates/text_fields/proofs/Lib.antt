@@ -1,0 +1,3 @@
+pub mod Called
+pub mod Digits
+pub mod Hexes
