@@ -7,9 +7,10 @@ use native.Mathlib.Omega.{arith}
 use borrow.Author.Tests.{le-leb, lt-leb}
 use lib.ListN.{length, take, drop, getD, length-append}
 use lib.Seq.{take-suc, take-all}
-use Rattle.dump_output.specs.Text.{numberText, linesOf, over, laid, placeAfter, wordsLaid, wordsPlace}
-use Rattle.dump_output.proofs.Laying.{laid-over, place-over, over-none, over-over, over-long}
-use Rattle.dump_output.proofs.Spelling.{spelt-few}
+use Rattle.text_put.specs.Text.{numberText, overlaid, laid, placeAfter}
+use Rattle.dump_output.specs.Words.{linesOf, wordsLaid, wordsPlace}
+use Rattle.text_put.proofs.Laying.{laid-over, place-over, over-none, over-over, over-long}
+use Rattle.text_put.proofs.Spelling.{spelt-few}
 
 abbrev pub Lined : List ℕ → ℕ → List ℕ → ℕ → List ℕ → Type 0
 Lined out at words r after = (r ≡ wordsPlace out at words) × (after ≡ wordsLaid out at words)
@@ -46,7 +47,7 @@ pub record Lining (out₀ : List ℕ) (at : ℕ) (words out : List ℕ) (place i
   pub some : i ≤ length words
   pub few : length (linesOf (take i words)) ≤ 6 * i
   pub is : place ≡ at + length (linesOf (take i words))
-  pub all : out ≡ over out₀ at (linesOf (take i words))
+  pub all : out ≡ overlaid out₀ at (linesOf (take i words))
 
 pub lining-start : {out : List ℕ} {at : ℕ} (words : List ℕ) → at ≤ length out → length words ≤ (length out - at) / 6 → Lining out at words out at 0
 unfolding linesOf
@@ -85,5 +86,5 @@ module _ {out₀ : List ℕ} {at : ℕ} {words out : List ℕ} {place i : ℕ} (
   lining-ends h =
       let z : take i words ≡ words = take-all i words h in
       let s : place ≡ at + length (linesOf words) = rw z at (m .is) in
-      let t : out ≡ over out₀ at (linesOf words) = rw z at (m .all) in
+      let t : out ≡ overlaid out₀ at (linesOf words) = rw z at (m .all) in
       (rw (le-leb (at + 6 * length words) (length out₀) (m .room)) s, rw (le-leb (at + 6 * length words) (length out₀) (m .room)) t)

@@ -8,7 +8,8 @@ use Rattle.refusals.specs.Numbers.{accepted}
 use Rattle.text.specs.Bytes.{bytes}
 use Rattle.dump.specs.Checked.{checked}
 use Rattle.dump_frames.specs.Whole.{wordsIn}
-use Rattle.dump_output.specs.Text.{laid, linesOf, numberText, placeAfter}
+use Rattle.text_put.specs.Text.{laid, numberText, placeAfter}
+use Rattle.dump_output.specs.Words.{linesOf}
 use Rattle.dump_output.specs.declared.said.Text.{Text}
 
 -- A refusal prints only `refused=R line=L`.

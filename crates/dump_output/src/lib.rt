@@ -1,10 +1,8 @@
 // What the dump player prints. 01, "The dump player".
-mod put;
 mod said;
+mod words;
 
-pub use put::put_bytes;
-pub use put::put_number;
-pub use put::put_words;
 pub use said::Text;
 pub use said::refusal;
 pub use said::total;
+pub use words::put_words;

@@ -1,6 +1,4 @@
 // The lines around the words.
-use crate::put::put_bytes;
-use crate::put::put_number;
 ghost use mathlib.Core.Path.{_≡_};
 ghost use Rattle.dump_output.specs.Printed.{refusalText, textOf, totalText};
 
@@ -16,10 +14,10 @@ pub fn refusal(no: u8, line: u32) -> Text
 {
     let mut bytes = [0u8; 32];
     let out: &mut [u8] = &mut bytes;
-    let number = put_bytes(out, 0, b"refused=");
-    let space = put_number(out, number, no as u64, b' ');
-    let value = put_bytes(out, space, b"line=");
-    let length = put_number(out, value, line as u64, b'\n');
+    let number = text_put::put_bytes(out, 0, b"refused=");
+    let space = text_put::put_number(out, number, no as u64, b' ');
+    let value = text_put::put_bytes(out, space, b"line=");
+    let length = text_put::put_number(out, value, line as u64, b'\n');
     Text { bytes, length }
 }
 
@@ -29,7 +27,7 @@ pub fn total(words: u32) -> Text
 {
     let mut bytes = [0u8; 32];
     let out: &mut [u8] = &mut bytes;
-    let value = put_bytes(out, 0, b"words=");
-    let length = put_number(out, value, words as u64, b'\n');
+    let value = text_put::put_bytes(out, 0, b"words=");
+    let length = text_put::put_number(out, value, words as u64, b'\n');
     Text { bytes, length }
 }

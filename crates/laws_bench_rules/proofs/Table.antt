@@ -27,7 +27,8 @@ use Rattle.calls_effects.specs.Effects.{setChannelMute, setDrumSampleOverride}
 use Rattle.calls_words.specs.Blocks.{blockNumber, blocked, blockBuffer, sampled}
 use Rattle.dump_frames.specs.Frame.{frameWrites, frameChip}
 use Rattle.dump_frames.specs.Whole.{placeOf as framePlace, chipBefore, frameWords, wordsIn}
-use Rattle.dump_output.specs.Text.{spelt, linesOf}
+use Rattle.text_put.specs.Text.{spelt}
+use Rattle.dump_output.specs.Words.{linesOf}
 use Rattle.dump_output.specs.Printed.{totalText, printed}
 use Rattle.laws_bench_rules.specs.Setups.{ticks, shape8, drumAlone, resetAfter31}
 use Rattle.laws_bench_rules.specs.Table.{Table}

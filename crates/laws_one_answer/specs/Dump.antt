@@ -10,8 +10,8 @@ use Rattle.dump.proofs.next_line as next-line
 use Rattle.dump.proofs.check
 use Rattle.dump.proofs.is_frame as is-frame
 use Rattle.dump_frames.proofs.play_frame as play-frame
-use Rattle.dump_output.proofs.put_bytes as put-bytes
-use Rattle.dump_output.proofs.put_number as put-number
+use Rattle.text_put.proofs.put_bytes as put-bytes
+use Rattle.text_put.proofs.put_number as put-number
 use Rattle.dump_output.proofs.put_words as put-words
 use Rattle.dump_output.proofs.refusal
 use Rattle.dump_output.proofs.total

@@ -23,8 +23,8 @@ fn put_verdict(out: &mut [u8], v: Verdict) -> usize {
 }
 
 fn put_pair(out: &mut [u8], at: usize, first: u64, second: u64, end: u8) -> usize {
-    let next = dump_output::put_number(out, at, first, b' ');
-    dump_output::put_number(out, next, second, end)
+    let next = text_put::put_number(out, at, first, b' ');
+    text_put::put_number(out, next, second, end)
 }
 
 fn write(bytes: &[u8], length: usize) {

@@ -1,8 +1,6 @@
-// Text put into a lent buffer at a place.
+// Bytes and numbers as text, put into a lent buffer at a place. Nothing here knows what the text is for.
 ghost use mathlib.Core.Path.{_≡_};
-ghost use Prim.Native.Nat.{_+_, _*_};
-ghost use lib.ListN.{length};
-ghost use Rattle.dump_output.specs.Text.{laid, linesOf, numberText, placeAfter, wordsLaid, wordsPlace};
+ghost use Rattle.text_put.specs.Text.{laid, numberText, placeAfter};
 
 // The bytes from the place on, and the place after them; where they do not fit, nothing is written and the place stays.
 pub fn put_bytes(out: &mut [u8], at: usize, bytes: &[u8]) -> usize
@@ -43,25 +41,4 @@ pub fn put_number(out: &mut [u8], at: usize, n: u64, end: u8) -> usize
     }
     out[at + k] = end;
     at + k + 1
-}
-
-// A line for each word. A word has 5 digits at most, so six bytes of room for each are asked for; with less, nothing is written.
-pub fn put_words(out: &mut [u8], at: usize, words: &[u16]) -> usize
-    ensures place { λ r. ⌜ r ≡ wordsPlace (now (out .entry)) at (now (words .entry)) ⌝ }
-    ensures text { λ r. ⌜ now (out .exit) ≡ wordsLaid (now (out .entry)) at (now (words .entry)) ⌝ }
-{
-    if at > out.len() {
-        return at;
-    }
-    if words.len() > (out.len() - at) / 6 {
-        return at;
-    }
-    let mut place = at;
-    let mut i = 0;
-    while i < words.len() {
-        let word = words[i];
-        place = put_number(out, place, word as u64, b'\n');
-        i += 1;
-    }
-    place
 }

@@ -7,9 +7,9 @@ use native.Mathlib.Omega.{arith}
 use lib.ListN.{length, take, drop, getD, set, length-append, length-set, List·getD-append}
 use lib.Seq.{paste, paste-zero, paste-suc, getD-take, getD-at}
 use Rattle.io.specs.Digits.{Fewest}
-use Rattle.dump_output.specs.Text.{decimalText, numberText, over, laid, placeAfter}
-use Rattle.dump_output.proofs.Laying.{laid-over, place-over, laid-not, place-not, over-paste}
-use Rattle.dump_output.proofs.Spelling.{Spelled, decimal-long}
+use Rattle.text_put.specs.Text.{decimalText, numberText, overlaid, laid, placeAfter}
+use Rattle.text_put.proofs.Laying.{laid-over, place-over, laid-not, place-not, over-paste}
+use Rattle.text_put.proofs.Spelling.{Spelled, decimal-long}
 
 -- the answer and the buffer at exit
 abbrev pub Put : List ℕ → ℕ → List ℕ → ℕ → List ℕ → Type 0
@@ -19,7 +19,7 @@ pub put-none : (out : List ℕ) (at : ℕ) (bytes : List ℕ) → length out < a
 put-none out at bytes h = (sym (place-not out at bytes h), sym (laid-not out at bytes h))
 
 pub put-all : (out : List ℕ) (at : ℕ) (bytes : List ℕ) → at + length bytes ≤ length out → {r : ℕ} → r ≡ at + length bytes → {after : List ℕ}
-    → after ≡ over out at bytes → Put out at bytes r after
+    → after ≡ overlaid out at bytes → Put out at bytes r after
 put-all out at bytes h e p = (e ∙ sym (place-over out at bytes h), p ∙ sym (laid-over out at bytes h))
 
 number-long : (text : List ℕ) (k n end : ℕ) → Spelled text k n → length (numberText n end) ≡ k + 1
@@ -64,7 +64,7 @@ module _ {out₀ : List ℕ} {at n end : ℕ} {text : List ℕ} {k : ℕ} {out :
       }
 
   -- the last store is the byte that ends it
-  ended : k ≤ i → set out (at + k) end ≡ over out₀ at (numberText n end)
+  ended : k ≤ i → set out (at + k) end ≡ overlaid out₀ at (numberText n end)
   ended h =
       let z : i ≡ k = omega (arith, m .few) in
       let l : length (numberText n end) ≡ suc k = omega (arith, number-long text k n end (m .text-is)) in

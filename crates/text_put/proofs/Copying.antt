@@ -6,8 +6,8 @@ use native.Mathlib.Numerals.{add-one}
 use native.Mathlib.Omega.{arith}
 use lib.ListN.{length, getD, set, length-set}
 use lib.Seq.{paste, paste-zero, paste-suc}
-use Rattle.dump_output.proofs.Laying.{over-paste}
-use Rattle.dump_output.proofs.Putting.{Put, put-none, put-all}
+use Rattle.text_put.proofs.Laying.{over-paste}
+use Rattle.text_put.proofs.Putting.{Put, put-none, put-all}
 
 pub bytes-outside : (out : List ℕ) (at : ℕ) (bytes : List ℕ) → length out < at → Put out at bytes at out
 bytes-outside out at bytes h = put-none out at bytes (omega arith)

@@ -1,10 +1,10 @@
--- `put::put_bytes` meets its contract: the buffer holds the first i bytes (`Copying`). Assumes nothing.
+-- `put_bytes` meets its contract: the buffer holds the first i bytes (`Copying`). Assumes nothing.
 use Prim.Native.Nat.{_-_}
 use native.Mathlib.Omega.{arith}
 use lib.ListN.{length}
-use Rattle.dump_output.proofs.Copying.{Copying, bytes-outside, bytes-tight, copying-start, copying-on, copying-ends}
-use Rattle.dump_output.proofs.put.put_bytes.Statement.{statement}
-use Rattle.dump_output.proofs.put.put_bytes.Tie as tie
+use Rattle.text_put.proofs.Copying.{Copying, bytes-outside, bytes-tight, copying-start, copying-on, copying-ends}
+use Rattle.text_put.proofs.put_bytes.Statement.{statement}
+use Rattle.text_put.proofs.put_bytes.Tie as tie
 
 abbrev Inv-loop : tie.InvT-loop
 Inv-loop out₀ at bytes i₀ out i = Copying out₀ at bytes out i

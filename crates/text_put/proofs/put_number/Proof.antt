@@ -1,12 +1,12 @@
--- `put::put_number` meets its contract: the buffer holds the text's first i bytes (`Putting`), then the byte that ends it. Assumes nothing.
+-- `put_number` meets its contract: the buffer holds the text's first i bytes (`Putting`), then the byte that ends it. Assumes nothing.
 use Prim.Native.Nat.{_-_}
 use native.Mathlib.Omega.{arith}
 use borrow.Author.Needs.{needs}
 use lib.ListN.{length-set}
-use Rattle.dump_output.proofs.Spelling.{spelled}
-use Rattle.dump_output.proofs.Putting.{Putting, number-outside, number-tight, putting-start, putting-on, putting-ends}
-use Rattle.dump_output.proofs.put.put_number.Statement.{statement}
-use Rattle.dump_output.proofs.put.put_number.Tie as tie
+use Rattle.text_put.proofs.Spelling.{spelled}
+use Rattle.text_put.proofs.Putting.{Putting, number-outside, number-tight, putting-start, putting-on, putting-ends}
+use Rattle.text_put.proofs.put_number.Statement.{statement}
+use Rattle.text_put.proofs.put_number.Tie as tie
 
 abbrev Inv-loop : tie.InvT-loop
 Inv-loop out₀ at n end text k i₀ out i = Putting out₀ at n end text k out i
@@ -24,7 +24,7 @@ sub-if2 : tie.Need-sub-if2 Inv-loop μ-loop
 sub-if2 c = omega arith
 
 returns-2 : tie.Need-returns-2 Inv-loop μ-loop
-returns-2 c = number-tight _ _ _ _ _ (omega arith) (c .before .before .decimal .ensures .1 .0) (c .before .if1 .left) (c .if2 .taken)
+returns-2 c = number-tight _ _ _ _ _ (omega arith) (c .before .before .decimal .ensures .1 .0) (c .before .if1 .left) (omega (arith, c .if2 .taken))
 
 loop-holds : tie.Need-loop-holds Inv-loop μ-loop
 loop-holds c = search (putting-start, spelled)

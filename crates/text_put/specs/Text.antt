@@ -1,5 +1,5 @@
--- What a number and a word are as text, and what a buffer holds after they are put there. 01, "The dump player". Assumes nothing.
-use Prim.Native.Nat.{ℕ, zero, suc, _+_, _*_, _/_, _%_}
+-- What a number is as text, and what a buffer holds after bytes are put there. Assumes nothing.
+use Prim.Native.Nat.{ℕ, zero, suc, _+_, _/_, _%_}
 use mathlib.Core.Bool.{Bool, cond}
 use mathlib.Core.List.{List, [], _∷_, _++_}
 use lib.Dec.{leb, ltb}
@@ -20,31 +20,16 @@ decimalText n = spelt 19 n
 abbrev pub numberText : ℕ → ℕ → List ℕ
 numberText n end = decimalText n ++ (end ∷ [])
 
--- Every output line ends in one LF.
-unfoldable pub linesOf : List ℕ → List ℕ
-linesOf [] = []
-linesOf (w ∷ ws) = numberText w 10 ++ linesOf ws
-
 -- the buffer with bytes from `at` on, and the place after them
-abbrev pub over : List ℕ → ℕ → List ℕ → List ℕ
-over out at bytes = take at out ++ bytes ++ drop (at + length bytes) out
+abbrev pub overlaid : List ℕ → ℕ → List ℕ → List ℕ
+overlaid out at bytes = take at out ++ bytes ++ drop (at + length bytes) out
 
 -- both as they were where the bytes do not fit
 abbrev pub fits : List ℕ → ℕ → List ℕ → Bool
 fits out at bytes = leb (at + length bytes) (length out)
 
 unfoldable pub laid : List ℕ → ℕ → List ℕ → List ℕ
-laid out at bytes = cond (fits out at bytes) (over out at bytes) out
+laid out at bytes = cond (fits out at bytes) (overlaid out at bytes) out
 
 unfoldable pub placeAfter : List ℕ → ℕ → List ℕ → ℕ
 placeAfter out at bytes = cond (fits out at bytes) (at + length bytes) at
-
--- the lines of words, where there is room of six bytes for each
-abbrev pub roomy : List ℕ → ℕ → List ℕ → Bool
-roomy out at words = leb (at + 6 * length words) (length out)
-
-unfoldable pub wordsLaid : List ℕ → ℕ → List ℕ → List ℕ
-wordsLaid out at words = cond (roomy out at words) (over out at (linesOf words)) out
-
-unfoldable pub wordsPlace : List ℕ → ℕ → List ℕ → ℕ
-wordsPlace out at words = cond (roomy out at words) (at + length (linesOf words)) at

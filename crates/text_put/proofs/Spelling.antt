@@ -8,7 +8,7 @@ use borrow.Author.Tests.{lt-ltb}
 use lib.ListN.{length, take, length-append}
 use Rattle.io.specs.Digits.{digits, glyph, Fewest}
 use Rattle.laws.proofs.Tests.{by-lt}
-use Rattle.dump_output.specs.Text.{spelt, decimalText}
+use Rattle.text_put.specs.Text.{spelt, decimalText}
 
 glyph-ten : (d : ℕ) → d < 10 → glyph d ≡ 48 + d
 glyph-ten d h = rw (lt-ltb d 10 h)

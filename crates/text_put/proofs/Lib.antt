@@ -1,0 +1,5 @@
+pub mod Laying
+pub mod Spelling
+pub mod Following
+pub mod Putting
+pub mod Copying
