@@ -2,7 +2,7 @@
 ghost use mathlib.Core.Path.{_≡_};
 ghost use Prim.Native.Nat.{_<_};
 ghost use Rattle.io.specs.Digits.{glyph as Digits·glyph};
-ghost use Rattle.text_put.specs.Text.{hexText, laid, numberText, placeAfter};
+ghost use Rattle.text_put.specs.Text.{decimalText, hexText, laid, numberText, placeAfter};
 
 // The bytes from the place on, and the place after them; where they do not fit, nothing is written and the place stays.
 pub fn put_bytes(out: &mut [u8], at: usize, bytes: &[u8]) -> usize
@@ -21,6 +21,15 @@ pub fn put_bytes(out: &mut [u8], at: usize, bytes: &[u8]) -> usize
         i += 1;
     }
     at + i
+}
+
+pub fn put_decimal(out: &mut [u8], at: usize, n: u64) -> usize
+    ensures place { λ r. ⌜ r ≡ placeAfter (now (out .entry)) at (decimalText n) ⌝ }
+    ensures text { λ r. ⌜ now (out .exit) ≡ laid (now (out .entry)) at (decimalText n) ⌝ }
+{
+    let mut text = [0u8; 20];
+    let k = io::decimal(n, &mut text);
+    put_bytes(out, at, &text[..k])
 }
 
 // The number in decimal, and the byte that ends it.

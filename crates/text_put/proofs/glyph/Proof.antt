@@ -1,5 +1,4 @@
 -- `text_put::glyph` meets its contract: the test says which digit it is. Assumes nothing.
-
 use borrow.Author.Needs.{needs}
 use Rattle.laws.proofs.Tests.{tests}
 use Rattle.text_put.proofs.glyph.Statement.{statement}
