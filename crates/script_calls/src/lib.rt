@@ -4,6 +4,7 @@ mod narrow;
 mod settings;
 
 pub use lines::call_of;
+pub use narrow::sixteen;
 pub use settings::Setting;
 
 pub enum Call {

@@ -24,3 +24,19 @@ pub fn float(bits: u32) -> f32 {
 pub fn signed(place: u32) -> i32 {
     (place as i64 - 0x8000_0000) as i32
 }
+
+// Sixteen bytes from two numbers, the first byte the highest.
+pub fn sixteen(first: u64, last: u64) -> [u8; 16] {
+    let mut all = [0u8; 16];
+    let mut x = first;
+    let mut y = last;
+    let mut i: usize = 8;
+    while i > 0 {
+        i -= 1;
+        all[i] = byte(x);
+        all[i + 8] = byte(y);
+        x /= 256;
+        y /= 256;
+    }
+    all
+}
