@@ -19,7 +19,6 @@ use Rattle.registers.specs.Registers.{pairAt, tonePeriodSet, noisePeriodSet, ga
 use Rattle.registers.specs.Reset.{voiceReset}
 use Rattle.queue.specs.Waiting.{writesFrom, waiting, due, queueIn}
 use Rattle.registers.specs.Writes.{appliedInOrder}
-use Rattle.registers.specs.Writes.{appliedInOrder}
 use Rattle.queue_flush.specs.Applied.{registerWrites}
 use Rattle.queue_drain.specs.Drain.{drain}
 use Rattle.clocking_ticks.specs.Ticks.{ticking, ticked}

@@ -2,19 +2,13 @@
 // and what is printed are those of oracle/README.md, so that the crate can be run beside it.
 //
 // `stdin` and `stdout` hold a script and what the crate answers to it; the head of `stdin` says how they are made.
-mod call;
+mod after;
+mod block;
 mod desk;
-mod effects;
-mod field;
-mod line;
-mod looks;
-mod name;
-mod number;
-mod say;
+mod lent;
+mod said;
 mod script;
-mod seek;
-mod state;
-mod words;
+mod value;
 
 fn main() {
     script::play();

@@ -6,10 +6,10 @@ use native.Mathlib.Numerals.{add-one}
 use native.Mathlib.Omega.{arith}
 use lib.ListN.{length, take, drop, getD, set, length-append, length-set, List·getD-append}
 use lib.Seq.{paste, paste-zero, paste-suc, getD-take, getD-at}
-use Rattle.io.specs.Digits.{Fewest}
+use Rattle.io.specs.Digits.{Fewest, digits}
 use Rattle.text_put.specs.Text.{decimalText, numberText, overlaid, laid, placeAfter}
 use Rattle.text_put.proofs.Laying.{laid-over, place-over, laid-not, place-not, over-paste}
-use Rattle.text_put.proofs.Spelling.{Spelled, decimal-long}
+use Rattle.text_put.proofs.Spelling.{Spelled, spelled, decimal-long}
 
 -- the answer and the buffer at exit
 abbrev pub Put : List ℕ → ℕ → List ℕ → ℕ → List ℕ → Type 0
@@ -21,6 +21,11 @@ put-none out at bytes h = (sym (place-not out at bytes h), sym (laid-not out at 
 pub put-all : (out : List ℕ) (at : ℕ) (bytes : List ℕ) → at + length bytes ≤ length out → {r : ℕ} → r ≡ at + length bytes → {after : List ℕ}
     → after ≡ overlaid out at bytes → Put out at bytes r after
 put-all out at bytes h e p = (e ∙ sym (place-over out at bytes h), p ∙ sym (laid-over out at bytes h))
+
+-- what `io::decimal` wrote is put as it stands
+pub decimal-put : (out text : List ℕ) (at : ℕ) {n k r : ℕ} {after : List ℕ} → n < 2 ^ 64 → Fewest 10 1 n k → take k text ≡ digits 10 k n
+    → r ≡ placeAfter out at (take k text) → after ≡ laid out at (take k text) → Put out at (decimalText n) r after
+decimal-put out text at h f e p q = let s = spelled h f e in (rw (s .same) at p, rw (s .same) at q)
 
 number-long : (text : List ℕ) (k n end : ℕ) → Spelled text k n → length (numberText n end) ≡ k + 1
 number-long text k n end s = length-append (decimalText n) (end ∷ []) ∙ rw (s .long)

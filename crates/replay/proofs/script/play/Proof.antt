@@ -1,16 +1,19 @@
--- `replay::script::play` is safe and ends. Assumes nothing.
+-- `replay::script::play` is safe and ends: the turns are counted down. Assumes nothing.
 use borrow.Author.Needs.{needs}
 use Rattle.replay.proofs.script.play.Statement.{statement}
 use Rattle.replay.proofs.script.play.Tie as tie
 
 abbrev Inv-loop : tie.InvT-loop
-Inv-loop input₀ out₀ buffer₀ now₀ turns₀ input out buffer now turns = Unit {0}
+Inv-loop input₀ out₀ words₀ now₀ turns₀ input out words now turns = Unit {0}
 
 abbrev μ-loop : tie.MeasureT-loop
-μ-loop input₀ out₀ buffer₀ now₀ turns₀ input out buffer now turns = turns
+μ-loop input₀ out₀ words₀ now₀ turns₀ input out words now turns = turns
 
 new-requires : tie.Need-new-requires Inv-loop μ-loop
 new-requires c κs = search needs
+
+nothing-read-requires : tie.Need-nothing-read-requires Inv-loop μ-loop
+nothing-read-requires c κs = search needs
 
 loop-holds : tie.Need-loop-holds Inv-loop μ-loop
 loop-holds c = search needs
@@ -40,6 +43,7 @@ play-spec =
     Inv-loop
     μ-loop
     new-requires
+    nothing-read-requires
     loop-holds
     turned-requires
     returns
