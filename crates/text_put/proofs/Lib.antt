@@ -3,3 +3,4 @@ pub mod Spelling
 pub mod Following
 pub mod Putting
 pub mod Copying
+pub mod Hexing

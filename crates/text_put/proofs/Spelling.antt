@@ -47,7 +47,7 @@ spelt-digits (suc k) n r h f =
     let high : n < 10 ^ suc k * 10 = rw pow-suc at h in
     rw (e, spelt-digits k (n / 10) q (omega arith) w, glyph-ten (n % 10) (omega arith)))
 
-length-digits : (b k n : ℕ) → length (digits b k n) ≡ k
+pub length-digits : (b k n : ℕ) → length (digits b k n) ≡ k
 length-digits b zero n = refl
 length-digits b (suc k) n = length-append (digits b k (n / b)) (glyph (n % b) ∷ []) ∙ rw (length-digits b k (n / b)) (omega arith)
 

@@ -4,6 +4,7 @@ use mathlib.Core.Bool.{Bool, cond}
 use mathlib.Core.List.{List, [], _∷_, _++_}
 use lib.Dec.{leb, ltb}
 use lib.ListN.{length, take, drop}
+use Rattle.io.specs.Digits.{digits}
 
 -- n in decimal, with no needless zero: a digit, or the text of n / 10 and the last digit. Up to k digits stand before the last
 unfoldable pub spelt : ℕ → ℕ → List ℕ
@@ -19,6 +20,10 @@ decimalText n = spelt 19 n
 -- a number and the byte that ends it
 abbrev pub numberText : ℕ → ℕ → List ℕ
 numberText n end = decimalText n ++ (end ∷ [])
+
+-- the last `width` digits of n in lower-case hex
+abbrev pub hexText : ℕ → ℕ → List ℕ
+hexText n width = digits 16 width n
 
 -- the buffer with bytes from `at` on, and the place after them
 abbrev pub overlaid : List ℕ → ℕ → List ℕ → List ℕ

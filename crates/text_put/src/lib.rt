@@ -1,6 +1,8 @@
 // Bytes and numbers as text, put into a lent buffer at a place. Nothing here knows what the text is for.
 ghost use mathlib.Core.Path.{_≡_};
-ghost use Rattle.text_put.specs.Text.{laid, numberText, placeAfter};
+ghost use Prim.Native.Nat.{_<_};
+ghost use Rattle.io.specs.Digits.{glyph as Digits·glyph};
+ghost use Rattle.text_put.specs.Text.{hexText, laid, numberText, placeAfter};
 
 // The bytes from the place on, and the place after them; where they do not fit, nothing is written and the place stays.
 pub fn put_bytes(out: &mut [u8], at: usize, bytes: &[u8]) -> usize
@@ -41,4 +43,36 @@ pub fn put_number(out: &mut [u8], at: usize, n: u64, end: u8) -> usize
     }
     out[at + k] = end;
     at + k + 1
+}
+
+// The last `width` digits of the number in lower-case hex.
+pub fn put_hex(out: &mut [u8], at: usize, n: u64, width: usize) -> usize
+    ensures place { λ r. ⌜ r ≡ placeAfter (now (out .entry)) at (hexText n width) ⌝ }
+    ensures text { λ r. ⌜ now (out .exit) ≡ laid (now (out .entry)) at (hexText n width) ⌝ }
+{
+    if at > out.len() {
+        return at;
+    }
+    if width > out.len() - at {
+        return at;
+    }
+    let mut rest = n;
+    let mut i = width;
+    while i > 0 {
+        i -= 1;
+        out[at + i] = glyph(rest % 16);
+        rest /= 16;
+    }
+    at + width
+}
+
+fn glyph(digit: u64) -> u8
+    requires { ⌜ digit < 16 ⌝ }
+    ensures { λ r. ⌜ r ≡ Digits·glyph digit ⌝ }
+{
+    if digit < 10 {
+        48 + digit as u8
+    } else {
+        87 + digit as u8
+    }
 }
