@@ -1,1 +1,1 @@
-pub mod Floats
+pub mod Positions
