@@ -1,5 +1,4 @@
 pub mod Laws
-pub mod Levels
 pub mod Ranges
 pub mod Fields
 pub mod Pattern

@@ -7,7 +7,7 @@ use Rattle.channel.specs.declared.Drum.{Drum}
 use Rattle.channel.specs.declared.Drum.the-variants.{Off, Sample}
 use Rattle.channel.specs.declared.Channel.{Channel}
 use Rattle.channel.specs.declared.Heard.{Heard}
-use Rattle.channel.specs.Levels.{loudnessOf}
+use Rattle.levels.specs.Levels.{loudnessOf}
 use Rattle.channel.specs.Channel.{float, over, times, drumOut, outputOf, heard}
 use Rattle.channel.proofs.Ranges.{top, one}
 

@@ -1,5 +1,5 @@
 -- What a channel gives and keeps. 01, "One tick, one word"; reset by "Power-on and reset". Assumes nothing.
-use mathlib.Core.Bool.{Bool, true, false, cond}
+use mathlib.Core.Bool.{Bool, false, cond}
 use Prim.Native.Nat.{ℕ, _*_, _/_, min}
 use lib.Dec.{eqb}
 use lib.Ieee.{Float, nan, inf, fin, binary32, up, down, div, mul, sub, neg, ofInt}
@@ -8,7 +8,7 @@ use Rattle.channel.specs.declared.Drum.{Drum}
 use Rattle.channel.specs.declared.Drum.the-variants.{Off, Sample}
 use Rattle.channel.specs.declared.Channel.{Channel}
 use Rattle.channel.specs.declared.Heard.{Heard}
-use Rattle.channel.specs.Levels.{levelUsed, gatedLevel, loudnessOf}
+use Rattle.levels.specs.Levels.{levelUsed, gatedLevel, loudnessOf}
 
 -- a whole number as an f32
 abbrev pub float : ℕ → Float

@@ -182,7 +182,7 @@ fn all_or_none(output: u32) -> bool
 fn envelope_in(envelope: Envelope) -> bool
     ensures { λ r. ⌜ r ≡ envelopeIn envelope ⌝ }
 {
-    if envelope.position < -64 {
+    if envelope.position < envelope::START {
         return false;
     }
     if envelope.position > 63 {

@@ -15,7 +15,6 @@ use Rattle.tone.specs.declared.Stepped.{Stepped}
 use Rattle.tone.specs.Tone.{toneStep}
 use Rattle.envelope.specs.Envelope.{nextPosition}
 use Rattle.envelope.specs.Range.{PositionInRange}
-use Rattle.tables.specs.Masks.{fiveBits}
 use Rattle.generators.specs.declared.Generators.{Generators}
 use Rattle.generators.specs.Range.{GeneratorsInRange}
 use Rattle.generators.specs.Generators.{edgesOf}
