@@ -2,7 +2,7 @@
 ghost use mathlib.Core.Path.{_≡_};
 ghost use Prim.Native.Nat.{_<_};
 ghost use Rattle.tables.specs.Levels.{levels};
-ghost use Rattle.channel.specs.Channel.{cutOf, drumOut, heard, sounded, channelReset, withMute, withDrum, quiet};
+ghost use Rattle.channel.specs.Channel.{heard, sounded, channelReset, withMute, withDrum, quiet};
 
 pub enum Drum {
     Off,
@@ -96,7 +96,7 @@ impl Channel {
         }
         match drum {
             Drum::Sample(s) => {
-                let out = drum_out(s);
+                let out = drums::drum_out(s);
                 let channel = Channel {
                     muted: false,
                     drum,
@@ -124,25 +124,5 @@ impl Channel {
                 Heard { out, channel }
             }
         }
-    }
-}
-
-fn drum_out(s: f32) -> u16
-    ensures { λ r. ⌜ r ≡ drumOut s ⌝ }
-{
-    cut(s / 4.0 * 10922.0)
-}
-
-// Rust's saturating `as u32`, at most 10922, worked out from the bits.
-fn cut(x: f32) -> u16
-    ensures { λ r. ⌜ r ≡ cutOf x ⌝ }
-{
-    if x >= 10922.0 {
-        10922
-    } else if x >= 1.0 {
-        let bits: u32 = f32::to_bits(x);
-        (((bits & 0x7f_ffff) | 0x80_0000) >> (150 - (bits >> 23))) as u16
-    } else {
-        0
     }
 }

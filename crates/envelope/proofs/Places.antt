@@ -50,9 +50,9 @@ late e r h q k =
     on-le (e .period) (e .counter + 1) _ _ _ k (cc)
 
 -- positions -64..63, and their places 0..127
-narrow : (p : ℤ) → PositionInRange p → mag p ≤ 63
-narrow (pos n) h = leb-true n 63 (h .to)
-narrow (negsuc n) h = leb-true n 63 (h .from)
+mag-le : (p : ℤ) → PositionInRange p → mag p ≤ 63
+mag-le (pos n) h = leb-true n 63 (h .to)
+mag-le (negsuc n) h = leb-true n 63 (h .from)
 
 plain : (p : ℤ) → mag p ≤ 63 → p +ℤ pos 64 ≡ pos (rowPlace p)
 unfolding rowPlace
@@ -61,15 +61,15 @@ plain (negsuc n) h = rw (le-ltb 64 (suc n) (omega arith))
 
 pub place-lt : (p : ℤ) → PositionInRange p → rowPlace p < 128
 unfolding rowPlace
-place-lt (pos n) r = omega (arith, narrow (pos n) r)
-place-lt (negsuc n) r = rw (le-ltb 64 (suc n) (omega (arith, narrow (negsuc n) r))) (omega arith)
+place-lt (pos n) r = omega (arith, mag-le (pos n) r)
+place-lt (negsuc n) r = rw (le-ltb 64 (suc n) (omega (arith, mag-le (negsuc n) r))) (omega arith)
 
 module _ (p : ℤ) (r : PositionInRange p) where
   pub fits : SFits w32 p
-  fits = record { sfits = omega (arith, narrow p r) }
+  fits = record { sfits = omega (arith, mag-le p r) }
 
   place-sum : toZ w32 (ofZ w32 p) +ℤ pos 64 ≡ pos (rowPlace p)
-  place-sum = rw (same p fits) (plain p (narrow p r))
+  place-sum = rw (same p fits) (plain p (mag-le p r))
 
   pub place-fits : SFits w32 (toZ w32 (ofZ w32 p) +ℤ pos 64)
   place-fits = rw place-sum (record { sfits = omega (arith, place-lt p r) })

@@ -1,9 +1,9 @@
--- `channel::drum_out` meets its contract: the rule's own two operations, with 4.0 and 10922.0 by their bit patterns. Assumes nothing.
+-- `drums::drum_out` meets its contract: the rule's own two operations, with 4.0 and 10922.0 by their bit patterns. Assumes nothing.
 use borrow.Author.Needs.{needs}
 use lib.Ieee.{ofBits, ofInt}
-use Rattle.channel.specs.Channel.{drumOut}
-use Rattle.channel.proofs.drum_out.Statement.{statement}
-use Rattle.channel.proofs.drum_out.Tie as tie
+use Rattle.drums.specs.Drums.{drumOut}
+use Rattle.drums.proofs.drum_out.Statement.{statement}
+use Rattle.drums.proofs.drum_out.Tie as tie
 
 cut-requires : tie.Need-cut-requires
 cut-requires c κs = search needs

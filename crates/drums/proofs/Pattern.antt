@@ -12,10 +12,10 @@ use lib.Ieee.{Float, binary32, fits, ofBits, toBits, isNan, le}
 use lib.Ieee.Bits.{ofBits-toBits}
 use lib.Ieee.Nearest.{div-same}
 use lib.Ieee.Positive.{num, den, den-pos, value→cross}
-use Rattle.channel.specs.Channel.{cutOf}
-use Rattle.channel.proofs.Laws.{cut-le}
-use Rattle.channel.proofs.Ranges.{top, one, Mid, yes, no, is-mid, mid-cut, mid-no-nan}
-use Rattle.channel.proofs.Fields.{units-ge, units-lt, bits-read}
+use Rattle.drums.specs.Drums.{cutOf}
+use Rattle.drums.proofs.Laws.{cut-le}
+use Rattle.drums.proofs.Ranges.{top, one, Mid, yes, no, is-mid, mid-cut, mid-no-nan}
+use Rattle.drums.proofs.Fields.{units-ge, units-lt, bits-read}
 
 -- the greater power of two has the greater exponent
 pow-lt-back : (i p : ℕ) → 2 ^ i < 2 ^ p → i < p

@@ -8,7 +8,7 @@ use lib.Dec.{T, ltb, lt→ltb, T-not}
 use lib.Ieee.{Float, nan, inf, fin, binary32, up, down, ofBits, isNan, le}
 use lib.Ieee.Fits.{down-pos}
 use lib.Ieee.Positive.{num, den, positive, first-pos, le→cross, cross→le, above, above-of-le}
-use Rattle.channel.specs.Channel.{cutOf}
+use Rattle.drums.specs.Drums.{cutOf}
 
 -- the code's 10922.0 and 1.0, as MIR has them
 abbrev pub top : Float
@@ -29,13 +29,13 @@ pub record Mid (x : Float) : Type 0 where
   pub low : den x ≤ num x
   pub high : num x < 10922 * den x
 
-over : (x : Float) → T (above x) → T (le top x) → 10922 ≡ cutOf x
+quotient : (x : Float) → T (above x) → T (le top x) → 10922 ≡ cutOf x
 unfolding cutOf ofBits
-over nan a h = absurd a
-over (inf true) a h = absurd a
-over (inf false) a h = refl
-over (fin true m e) a h = absurd a
-over (fin false m e) a h = sym (min-eq-right (le-div-iff-mul-le (down-pos e) .1 (omega (arith, le→cross top (fin false m e) tt a h))))
+quotient nan a h = absurd a
+quotient (inf true) a h = absurd a
+quotient (inf false) a h = refl
+quotient (fin true m e) a h = absurd a
+quotient (fin false m e) a h = sym (min-eq-right (le-div-iff-mul-le (down-pos e) .1 (omega (arith, le→cross top (fin false m e) tt a h))))
 
 between : (x : Float) → T (above x) → T (not (le top x)) → T (le one x) → Mid x
 unfolding le ofBits
@@ -64,7 +64,7 @@ under (fin false m e) h = rw (div-eq-of-lt (lt-of-not-le reaches), zero-min)
 -- `x >= 10922.0`
 pub is-over : (x : Float) → le top x ≡ true → 10922 ≡ cutOf x
 unfolding ofBits
-is-over x h = over x (above-of-le top x tt (yes h)) (yes h)
+is-over x h = quotient x (above-of-le top x tt (yes h)) (yes h)
 
 -- `x >= 1.0`, and not the first
 pub is-mid : (x : Float) → le top x ≡ false → le one x ≡ true → Mid x

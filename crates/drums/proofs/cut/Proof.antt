@@ -1,8 +1,8 @@
--- `channel::cut` meets its contract: the two tests split the floats into three ranges, and the middle one's bits hold its whole part. Assumes nothing.
-use Rattle.channel.proofs.Ranges.{is-over, is-under}
-use Rattle.channel.proofs.Pattern.{no-nan, field-fits, down-by, cut-down, cut-fits}
-use Rattle.channel.proofs.cut.Statement.{statement}
-use Rattle.channel.proofs.cut.Tie as tie
+-- `drums::cut` meets its contract: the two tests split the floats into three ranges, and the middle one's bits hold its whole part. Assumes nothing.
+use Rattle.drums.proofs.Ranges.{is-over, is-under}
+use Rattle.drums.proofs.Pattern.{no-nan, field-fits, down-by, cut-down, cut-fits}
+use Rattle.drums.proofs.cut.Statement.{statement}
+use Rattle.drums.proofs.cut.Tie as tie
 
 float-to-bits-bits : tie.Need-float-to-bits-bits
 float-to-bits-bits c = search no-nan
