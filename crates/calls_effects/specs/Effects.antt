@@ -8,11 +8,11 @@ use Rattle.answers.specs.declared.Answered.{Answered}
 use Rattle.answers.specs.declared.Flag.{Flag}
 use Rattle.answers.specs.declared.Outputs.{Outputs}
 use Rattle.chip.specs.declared.Chip.{Chip}
-use Rattle.envelope.specs.Envelope.{restarted, start}
+use Rattle.envelope.specs.Envelope.{restarted, restartPosition}
 use Rattle.generators.specs.Generators.{tonesReleased}
-use Rattle.channel.specs.Channel.{float}
-use Rattle.mixer.specs.Mix.{isMuted, setDrum, setMute}
-use Rattle.mixer.specs.declared.Channels.{Channels}
+use Rattle.drums.specs.Drums.{float}
+use Rattle.channels.specs.Channels.{isMuted, setDrum, setMute}
+use Rattle.channels.specs.declared.Channels.{Channels}
 use Rattle.channel.specs.declared.Drum.{Drum}
 use Rattle.chip.specs.Range.{chipIn}
 use Rattle.refusals.specs.Numbers.{accepted, noSuchChannel, outOfRange}

@@ -7,11 +7,11 @@ use Rattle.answers.specs.declared.Answered.{Answered}
 use Rattle.chip.specs.declared.Chip.{Chip}
 use Rattle.chip_parts.specs.Parts.{atStart}
 use Rattle.chip.specs.declared.Clocks.{Clocks}
-use Rattle.mixer.specs.Mix.{allQuiet, channelsReset}
+use Rattle.channels.specs.Channels.{allQuiet, channelsReset}
 use Rattle.clocks.specs.Clocks.{clocksNo}
 use Rattle.chip.specs.Clocks.{clocksOf}
 use Rattle.refusals.specs.Numbers.{accepted}
-use Rattle.registers.specs.Reset.{voiceNew, voiceReset}
+use Rattle.all_registers.specs.Reset.{voiceNew, voiceReset}
 
 -- A new chip: power-on is the reset of a blank.
 unfoldable pub madeOf : Clocks → Chip

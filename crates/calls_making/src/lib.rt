@@ -4,7 +4,7 @@ ghost use Rattle.calls_making.specs.Making.{fresh, madeOf, resetCall, wi
 use answers::Answered;
 use chip::Chip;
 use chip::Clocks;
-use mixer::Channels;
+use channels::Channels;
 use registers::Voice;
 
 pub const DEFAULT_MASTER_CLOCK: u32 = 2_000_000;
@@ -37,7 +37,7 @@ pub fn reset(chip: Chip) -> Answered
         return answers::refused(chip);
     }
     let clocks = chip.core.clocks;
-    let voice = chip.core.voice.reset();
+    let voice = all_registers::reset(chip.core.voice);
     let channels = chip.core.channels.reset();
     answers::accepted(chip_parts::at_start(clocks, voice, channels))
 }
@@ -45,5 +45,5 @@ pub fn reset(chip: Chip) -> Answered
 fn made(clocks: Clocks) -> Chip
     ensures { λ r. ⌜ r ≡ madeOf clocks ⌝ }
 {
-    chip_parts::at_start(clocks, Voice::new(), Channels::new())
+    chip_parts::at_start(clocks, all_registers::new(), Channels::new())
 }

@@ -7,7 +7,7 @@ use Rattle.chip_parts.specs.Parts.{onVoice, voiceOf, withQueue, withSelection}
 use Rattle.answers.specs.declared.Answered.{Answered}
 use Rattle.answers.specs.declared.Byte.{Byte}
 use Rattle.chip.specs.declared.Chip.{Chip}
-use Rattle.envelope.specs.Envelope.{start}
+use Rattle.envelope.specs.Envelope.{restartPosition}
 use Rattle.queue.specs.Waiting.{push}
 use Rattle.queue.specs.declared.Pushed.{Pushed}
 use Rattle.queue.specs.declared.Write.{Write}

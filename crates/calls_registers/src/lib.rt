@@ -46,7 +46,7 @@ pub fn load_registers(chip: Chip, bytes: [u8; 16]) -> Answered
     if !chip::in_range(chip) {
         return answers::refused(chip);
     }
-    let voice = chip.core.voice.load_registers(bytes);
+    let voice = all_registers::load_registers(chip.core.voice, bytes);
     answers::accepted(chip_parts::with_voice(chip, voice))
 }
 

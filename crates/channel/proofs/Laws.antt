@@ -1,58 +1,16 @@
 -- Bounds of a channel's rules, for a caller's proof to lean on. 01, "One tick, one word". Assumes nothing.
-use mathlib.Core.Path.{_≡_, refl}
-use mathlib.Core.Bool.{Bool, true, false}
-use Prim.Native.Nat.{ℕ, _-_, _*_, _/_, _%_, _^_, _≤_, _<_, min, zero-le}
-use native.Mathlib.Nat.{le-trans, lt-of-le-of-lt, min-le-right, div-le-self}
-use native.Mathlib.Omega.{arith}
-use lib.Bits.{and-le-l}
-use lib.Dec.{eqb}
-use lib.Ieee.{Float, nan, inf, fin, up, down, toUnsigned}
+use mathlib.Core.Bool.{Bool}
+use Prim.Native.Nat.{ℕ, _≤_, _<_, zero-le}
 use Rattle.laws.proofs.Tests.{by-cond}
-use Rattle.tables.specs.Levels.{levelOf}
-use Rattle.tables.proofs.Laws.{level-le}
+use Rattle.levels.specs.Levels.{levelUsed, gatedLevel}
+use Rattle.levels.proofs.Laws.{used-lt, gated-lt, loudness-le}
+use Rattle.drums.proofs.Laws.{drum-le}
 use Rattle.channel.specs.declared.Drum.{Drum}
 use Rattle.channel.specs.declared.Drum.the-variants.{Off, Sample}
 use Rattle.channel.specs.declared.Channel.{Channel}
-use Rattle.channel.specs.Levels.{levelUsed, gatedLevel, loudnessOf}
-use Rattle.channel.specs.Channel.{float, over, times, cutOf, drumOut, heard, heardBy, heardMuted, sounded}
+use Rattle.channel.specs.Channel.{heard, heardBy, heardMuted, sounded}
 
--- a volume gives a level index where the envelope does
-pub used-lt : (volume envelope : ℕ) → envelope < 32 → levelUsed volume envelope < 32
-unfolding levelUsed
-used-lt v e h = by-cond (λ n. n < 32) (eqb (v / 16 % 2) 1) e (v % 16 * 2) (λ _. h) (λ _. omega arith)
-
--- the gate only takes bits away
-pub gated-lt : (index gate : ℕ) → index < 32 → gatedLevel index gate < 32
-unfolding gatedLevel
-gated-lt i g h = lt-of-le-of-lt (and-le-l i (g % 32)) h
-
--- the cut is Rust's `(x as u32).min(10922)`
-pub as-rust : (x : Float) → cutOf x ≡ min (toUnsigned 32 x) 10922
-unfolding cutOf toUnsigned
-as-rust nan = refl
-as-rust (inf true) = refl
-as-rust (inf false) = refl
-as-rust (fin true m e) = refl
-as-rust (fin false m e) = capped (m * up e / down e)
-  where
-    capped : (n : ℕ) → min n 10922 ≡ min (min n (2 ^ 32 - 1)) 10922
-    capped n = omega arith
-
--- no cut is above 10922
-pub cut-le : (x : Float) → cutOf x ≤ 10922
-cut-le x = rw as-rust (min-le-right (toUnsigned 32 x) 10922)
-
--- nor is a drum's output
-pub drum-le : (s : Float) → drumOut s ≤ 10922
-unfolding drumOut
-drum-le s = cut-le (times (over s (float 4)) (float 10922))
-
--- nor a level, halved or not
-pub loudness-le : (half : Bool) (index : ℕ) → index < 32 → loudnessOf half index ≤ 10922
-unfolding loudnessOf
-loudness-le half i h = by-cond (λ n. n ≤ 10922) half (levelOf i / 2) (levelOf i) (λ _. le-trans (div-le-self (levelOf i) 2) (level-le i h)) (λ _. level-le i h)
-
--- so a channel gives at most 10922
+-- a channel gives at most 10922
 pub heard-le : (c : Channel) (gated ungated : ℕ) (half : Bool) → gated < 32 → heard c gated ungated half .out ≤ 10922
 unfolding heard
 heard-le c g u half h = by-cond (λ r. r .out ≤ 10922) (c .muted) (heardMuted c) (heardBy (c .drum) c g u half) (λ _. zero-le) (λ _. by-drum (c .drum))

@@ -7,9 +7,10 @@ use Rattle.channel.specs.declared.Drum.{Drum}
 use Rattle.channel.specs.declared.Drum.the-variants.{Off, Sample}
 use Rattle.channel.specs.declared.Channel.{Channel}
 use Rattle.channel.specs.declared.Heard.{Heard}
-use Rattle.channel.specs.Levels.{loudnessOf}
-use Rattle.channel.specs.Channel.{float, over, times, drumOut, outputOf, heard}
-use Rattle.channel.proofs.Ranges.{top, one}
+use Rattle.levels.specs.Levels.{loudnessOf}
+use Rattle.drums.specs.Drums.{float, quotient, times, drumOut}
+use Rattle.channel.specs.Channel.{outputOf, heard}
+use Rattle.drums.proofs.Ranges.{top, one}
 
 -- what the code builds
 abbrev built : ℕ → Bool → Drum → Float → Float → Heard
@@ -35,12 +36,12 @@ module _ (c : Channel) (gated ungated : ℕ) (half : Bool) where
 
   -- the way of a drum
   pub sample-heard : (s : Float) (out : ℕ) → c .muted ≡ false → c .drum ≡ Sample s → out ≡ drumOut s
-      → built out false (Sample s) (sub binary32 (times (over (float out) top) two) one) one ≡ heard c gated ungated half
+      → built out false (Sample s) (sub binary32 (times (quotient (float out) top) two) one) one ≡ heard c gated ungated half
   unfolding heard ofBits ofInt
   sample-heard s out m d o = rw (m, d, o)
 
   -- the way of a level, whose output the last premise settles
   pub level-heard : (out loudness : ℕ) (output : Float) → c .muted ≡ false → c .drum ≡ Off → out ≡ loudnessOf half gated → loudness ≡ loudnessOf half ungated
-      → output ≡ outputOf gated ungated (over (float loudness) top) → built out false (c .drum) output (over (float loudness) top) ≡ heard c gated ungated half
+      → output ≡ outputOf gated ungated (quotient (float loudness) top) → built out false (c .drum) output (quotient (float loudness) top) ≡ heard c gated ungated half
   unfolding heard ofBits ofInt
   level-heard out loudness output m d o l p = rw (p, m, d, o, l)

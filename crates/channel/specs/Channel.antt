@@ -1,35 +1,14 @@
 -- What a channel gives and keeps. 01, "One tick, one word"; reset by "Power-on and reset". Assumes nothing.
-use mathlib.Core.Bool.{Bool, true, false, cond}
-use Prim.Native.Nat.{ℕ, _*_, _/_, min}
+use mathlib.Core.Bool.{Bool, false, cond}
+use Prim.Native.Nat.{ℕ}
 use lib.Dec.{eqb}
-use lib.Ieee.{Float, nan, inf, fin, binary32, up, down, div, mul, sub, neg, ofInt}
-use lib.IntN.{pos}
+use lib.Ieee.{Float, binary32, sub, neg}
 use Rattle.channel.specs.declared.Drum.{Drum}
 use Rattle.channel.specs.declared.Drum.the-variants.{Off, Sample}
 use Rattle.channel.specs.declared.Channel.{Channel}
 use Rattle.channel.specs.declared.Heard.{Heard}
-use Rattle.channel.specs.Levels.{levelUsed, gatedLevel, loudnessOf}
-
--- a whole number as an f32
-abbrev pub float : ℕ → Float
-float n = ofInt binary32 (pos n)
-
-abbrev pub over : Float → Float → Float
-over a b = div binary32 a b
-
-abbrev pub times : Float → Float → Float
-times a b = mul binary32 a b
-
--- cut toward zero, at most 10922; negative and NaN give 0
-unfoldable pub cutOf : Float → ℕ
-cutOf nan = 0
-cutOf (inf negative) = cond negative 0 10922
-cutOf (fin negative m e) = cond negative 0 (min (m * up e / down e) 10922)
-
--- a drum gives s / 4, times 10922, each rounded once in f32
-unfoldable pub drumOut : Float → ℕ
-unfolding cutOf
-drumOut s = cutOf (times (over s (float 4)) (float 10922))
+use Rattle.drums.specs.Drums.{float, quotient, times, drumOut}
+use Rattle.levels.specs.Levels.{levelUsed, gatedLevel, loudnessOf}
 
 -- the channel after a word: its mute and drum as they were, its last output and last amplitude
 abbrev pub left : Channel → Float → Float → Channel
@@ -43,11 +22,11 @@ heardMuted c = record { out = 0; channel = left c (float 0) (float 0) }
 abbrev pub heardSample : Float → Channel → Heard
 heardSample s c =
     let out = drumOut s in
-    record { out = out; channel = left c (sub binary32 (times (over (float out) (float 10922)) (float 2)) (float 1)) (float 1) }
+    record { out = out; channel = left c (sub binary32 (times (quotient (float out) (float 10922)) (float 2)) (float 1)) (float 1) }
 
 -- amplitude is the ungated index's level, halved as above, / 10922
 abbrev pub amplitudeOf : ℕ → Bool → Float
-amplitudeOf ungated half = over (float (loudnessOf half ungated)) (float 10922)
+amplitudeOf ungated half = quotient (float (loudnessOf half ungated)) (float 10922)
 
 -- output is plus it where gated and ungated levels agree, minus it otherwise, 0.0 if the ungated index is 0
 abbrev pub outputOf : ℕ → ℕ → Float → Float

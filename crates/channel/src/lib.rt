@@ -1,9 +1,8 @@
-// The level of a channel, and what it gives. 01, "One tick, one word"; the crate's mixer.rs.
+// What a channel gives, and what it keeps. 01, "One tick, one word"; the crate's mixer.rs.
 ghost use mathlib.Core.Path.{_≡_};
 ghost use Prim.Native.Nat.{_<_};
 ghost use Rattle.tables.specs.Levels.{levels};
-ghost use Rattle.channel.specs.Levels.{levelUsed, gatedLevel, loudnessOf};
-ghost use Rattle.channel.specs.Channel.{cutOf, drumOut, heard, sounded, channelReset, withMute, withDrum, quiet};
+ghost use Rattle.channel.specs.Channel.{heard, sounded, channelReset, withMute, withDrum, quiet};
 
 pub enum Drum {
     Off,
@@ -21,24 +20,6 @@ pub struct Channel {
 pub struct Heard {
     pub out: u16,
     pub channel: Channel,
-}
-
-// The level index of a volume register, before the gate.
-pub fn level_used(volume: u8, envelope: u8) -> u8
-    ensures { λ r. ⌜ r ≡ levelUsed volume envelope ⌝ }
-{
-    if volume / 16 % 2 == 1 {
-        envelope
-    } else {
-        volume % 16 * 2
-    }
-}
-
-// The same behind the gate; `gate` holds the channel's five bits at the bottom.
-pub fn gated_level(index: u8, gate: u32) -> u8
-    ensures { λ r. ⌜ r ≡ gatedLevel index gate ⌝ }
-{
-    index & ((gate % 32) as u8)
 }
 
 impl Channel {
@@ -92,8 +73,8 @@ impl Channel {
         requires { ⌜ now table ≡ levels ⌝ }
         ensures { λ r. ⌜ r ≡ sounded self volume half envelope gate ⌝ }
     {
-        let ungated = level_used(volume, envelope);
-        let gated = gated_level(ungated, gate);
+        let ungated = levels::level_used(volume, envelope);
+        let gated = levels::gated_level(ungated, gate);
         self.compute_output(gated, ungated, half, table)
     }
 
@@ -115,7 +96,7 @@ impl Channel {
         }
         match drum {
             Drum::Sample(s) => {
-                let out = drum_out(s);
+                let out = drums::drum_out(s);
                 let channel = Channel {
                     muted: false,
                     drum,
@@ -125,8 +106,8 @@ impl Channel {
                 Heard { out, channel }
             }
             Drum::Off => {
-                let out = loudness(table, gated, half);
-                let amplitude = loudness(table, ungated, half) as f32 / 10922.0;
+                let out = levels::loudness(table, gated, half);
+                let amplitude = levels::loudness(table, ungated, half) as f32 / 10922.0;
                 let output = if ungated == 0 {
                     0.0
                 } else if gated == ungated {
@@ -143,33 +124,5 @@ impl Channel {
                 Heard { out, channel }
             }
         }
-    }
-}
-
-fn loudness(table: &[u16; 32], index: u8, half: bool) -> u16
-    requires { ⌜ (now table ≡ levels) × (index < 32) ⌝ }
-    ensures { λ r. ⌜ r ≡ loudnessOf half index ⌝ }
-{
-    let level = tables::level(table, index);
-    if half { level / 2 } else { level }
-}
-
-fn drum_out(s: f32) -> u16
-    ensures { λ r. ⌜ r ≡ drumOut s ⌝ }
-{
-    cut(s / 4.0 * 10922.0)
-}
-
-// Rust's saturating `as u32`, at most 10922, worked out from the bits.
-fn cut(x: f32) -> u16
-    ensures { λ r. ⌜ r ≡ cutOf x ⌝ }
-{
-    if x >= 10922.0 {
-        10922
-    } else if x >= 1.0 {
-        let bits: u32 = f32::to_bits(x);
-        (((bits & 0x7f_ffff) | 0x80_0000) >> (150 - (bits >> 23))) as u16
-    } else {
-        0
     }
 }

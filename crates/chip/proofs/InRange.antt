@@ -21,7 +21,7 @@ use Rattle.noise.specs.declared.Noise.{Noise}
 use Rattle.envelope.specs.declared.Envelope.{Envelope}
 use Rattle.generators.specs.declared.Generators.{Generators}
 use Rattle.tone.specs.Tone.{toneReset}
-use Rattle.envelope.specs.Envelope.{start}
+use Rattle.envelope.specs.Envelope.{restartPosition}
 use Rattle.tone.specs.Range.{ToneInRange}
 use Rattle.noise.specs.Range.{NoiseInRange}
 use Rattle.envelope.specs.Range.{EnvelopeInRange}
@@ -101,7 +101,7 @@ noise-passes {n} r =
 envelope-passed : {e : Envelope} → envelopeIn e ≡ true → EnvelopeInRange e
 unfolding envelopeIn
 envelope-passed {e} h =
-    let (a, p) = both-parts (leZ start (e .position)) _ h in
+    let (a, p) = both-parts (leZ restartPosition (e .position)) _ h in
     let (b, q) = both-parts (leZ (e .position) (pos 63)) _ p in
     let (d, r) = both-parts (eqb (e .offset % 128) 0) _ q in
     let (o, _) = both-parts (leb (e .offset) 1152) _ r in

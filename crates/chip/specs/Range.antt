@@ -15,7 +15,7 @@ use Rattle.tone.specs.declared.Tone.{Tone}
 use Rattle.noise.specs.declared.Noise.{Noise}
 use Rattle.envelope.specs.declared.Envelope.{Envelope}
 use Rattle.generators.specs.declared.Generators.{Generators}
-use Rattle.envelope.specs.Envelope.{start}
+use Rattle.envelope.specs.Envelope.{restartPosition}
 use Rattle.gates.specs.declared.Gates.{Gates}
 use Rattle.registers.specs.declared.Voice.{Voice}
 use Rattle.registers.specs.Range.{VoiceInRange}
@@ -62,7 +62,7 @@ noiseIn n =
 -- position -64..63, a real shape offset,
 unfoldable pub envelopeIn : Envelope → Bool
 envelopeIn e =
-    holds (leZ start (e .position) ∷ leZ (e .position) (pos 63) ∷ eqb (e .offset % 128) 0 ∷ leb (e .offset) 1152 ∷ [])
+    holds (leZ restartPosition (e .position) ∷ leZ (e .position) (pos 63) ∷ eqb (e .offset % 128) 0 ∷ leb (e .offset) 1152 ∷ [])
 
 unfoldable pub generatorsIn : Generators → Bool
 generatorsIn g =

@@ -8,7 +8,7 @@ ghost use Rattle.chip.specs.Range.{clocksIn, bytesIn, toneIn, noiseIn, a
 use envelope::Envelope;
 use gates::Gates;
 use generators::Generators;
-use mixer::Channels;
+use channels::Channels;
 use noise::Noise;
 use queue::Queue;
 use registers::Voice;
@@ -191,7 +191,7 @@ fn all_or_none(output: u32) -> bool
 fn envelope_in(envelope: Envelope) -> bool
     ensures { λ r. ⌜ r ≡ envelopeIn envelope ⌝ }
 {
-    if envelope.position < -64 {
+    if envelope.position < envelope::START {
         return false;
     }
     if envelope.position > 63 {

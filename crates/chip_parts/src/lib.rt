@@ -4,7 +4,7 @@ ghost use Rattle.chip_parts.specs.Parts.{atStart, withChannels, withVoic
 use chip::Chip;
 use chip::Clocks;
 use chip::Core;
-use mixer::Channels;
+use channels::Channels;
 use queue::Queue;
 use registers::Voice;
 

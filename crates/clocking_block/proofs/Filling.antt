@@ -7,7 +7,7 @@ use native.Mathlib.Numerals.{add-one}
 use native.Mathlib.Omega.{arith}
 use lib.ListN.{length, set, take, length-set}
 use lib.Seq.{take-suc-set, take-all}
-use Rattle.tables.specs.Envelope.{FollowsRule}
+use Rattle.envelope_table.specs.Shapes.{FollowsRule}
 use Rattle.tables.specs.Levels.{levels}
 use Rattle.queue_drain.specs.Drain.{drain}
 use Rattle.queue.specs.Waiting.{ring, QueueInRange}

@@ -21,7 +21,7 @@ pub fn render(chip: Chip, out: &mut [u16]) -> Rendered
     ensures { λ r. ⌜ now (out .exit) ≡ wordsOf (length (now (out .entry))) chip ⌝ }
 {
     // a const table is rebuilt at each use: copied once, then lent
-    let entries = tables::envelope_entries();
+    let entries = envelope_table::envelope_entries();
     let table = tables::level_table();
     let ring = chip.queue;
     let mut core = chip.core;

@@ -15,20 +15,19 @@ use Rattle.tone.specs.declared.Stepped.{Stepped}
 use Rattle.tone.specs.Tone.{toneStep}
 use Rattle.envelope.specs.Envelope.{nextPosition}
 use Rattle.envelope.specs.Range.{PositionInRange}
-use Rattle.tables.specs.Masks.{fiveBits}
 use Rattle.generators.specs.declared.Generators.{Generators}
 use Rattle.generators.specs.Range.{GeneratorsInRange}
 use Rattle.generators.specs.Generators.{edgesOf}
 use Rattle.clocking_generators.specs.declared.Turning.{Turning}
-use Rattle.clocking_generators.specs.Turning.{Held, withTones, turningOf, withEnvelope, withNoise}
+use Rattle.clocking_generators.specs.Turning.{Held, newTones, turningOf, newEnvelope, newNoise}
 
-pub held-tones : {t : Turning} (a b c edges : ℕ) → Held t → a ≤ 65535 → b ≤ 65535 → c ≤ 65535 → edges < 32768 → Held (withTones a b c edges t)
+pub held-tones : {t : Turning} (a b c edges : ℕ) → Held t → a ≤ 65535 → b ≤ 65535 → c ≤ 65535 → edges < 32768 → Held (newTones a b c edges t)
 held-tones a b c edges h x y z e = record { a = x; b = y; c = z; envelope = h .envelope; noise = h .noise; edges = e; position = h .position }
 
-pub held-envelope : {t : Turning} (counter : ℕ) (position : ℤ) → Held t → counter ≤ 65535 → mag position < 2147483648 → Held (withEnvelope counter position t)
+pub held-envelope : {t : Turning} (counter : ℕ) (position : ℤ) → Held t → counter ≤ 65535 → mag position < 2147483648 → Held (newEnvelope counter position t)
 held-envelope counter position h x p = record { a = h .a; b = h .b; c = h .c; envelope = x; noise = h .noise; edges = h .edges; position = p }
 
-pub held-noise : {t : Turning} (counter register output : ℕ) (half : Bool) → Held t → counter ≤ 65535 → Held (withNoise counter register output half t)
+pub held-noise : {t : Turning} (counter register output : ℕ) (half : Bool) → Held t → counter ≤ 65535 → Held (newNoise counter register output half t)
 held-noise counter register output half h x = record { a = h .a; b = h .b; c = h .c; envelope = h .envelope; noise = x; edges = h .edges; position = h .position }
 
 -- fifteen bits stay fifteen
@@ -44,9 +43,9 @@ edges-lt {g} r =
     (or-lt 15 (g .a .edges) (g .b .edges) (omega (arith, r .a .high)) (omega (arith, r .b .high)))
     (r .c .high)
 
-pub narrow : (p : ℤ) → PositionInRange p → mag p < 2147483648
-narrow (pos n) h = omega (arith, leb-true n 63 (h .to))
-narrow (negsuc n) h = omega (arith, leb-true n 63 (h .from))
+pub position-mag : (p : ℤ) → PositionInRange p → mag p < 2147483648
+position-mag (pos n) h = omega (arith, leb-true n 63 (h .to))
+position-mag (negsuc n) h = omega (arith, leb-true n 63 (h .from))
 
 pub held-of : {g : Generators} → GeneratorsInRange g → g .a .counter < 65536 → g .b .counter < 65536 → g .c .counter < 65536
     → g .envelope .counter < 65536 → g .noise .counter < 65536 → Held (turningOf g)
@@ -59,7 +58,7 @@ held-of {g} r a b c e n =
       envelope = omega arith;
       noise = omega arith;
       edges = edges-lt r;
-      position = narrow (g .envelope .position) (r .envelope .position);
+      position = position-mag (g .envelope .position) (r .envelope .position);
     }
 
 -- a position of 32 bits is read back as it was stored, and so is the next

@@ -1,6 +1,6 @@
 -- A tick of what stands for the generators is the generators' tick. Assumes nothing.
 use mathlib.Core.Path.{_≡_, refl, sym, ap, ap₂, _∙_}
-use Prim.Native.Nat.{ℕ, _+_, _*_, _/_, _%_, _^_, _≤_, _<_, max}
+use Prim.Native.Nat.{ℕ, _+_, _*_, _/_, _%_, _<_, max}
 use native.Mathlib.Nat.{mod-eq-of-lt}
 use native.Mathlib.Omega.{arith}
 use borrow.Author.Tests.{le-leb, lt-leb}
@@ -15,7 +15,7 @@ use Rattle.generators.specs.declared.Generators.{Generators}
 use Rattle.generators.specs.Generators.{tick, edgesOf}
 use Rattle.generators.specs.Range.{GeneratorsInRange}
 use Rattle.clocking_generators.specs.declared.Turning.{Turning}
-use Rattle.clocking_generators.specs.Turning.{Held, tonesTurned, envelopeTurned, noiseTurned, shown, turned, turningOf}
+use Rattle.clocking_generators.specs.Turning.{tonesTurned, envelopeTurned, noiseTurned, shown, turned, turningOf}
 use Rattle.laws.proofs.Digits.{and-xor, and-or}
 
 -- one part of a tick of the generators

@@ -64,8 +64,8 @@ pub record Held (t : Turning) : Type 0 where
   pub position : mag (t .position) < 2147483648
 
 -- One part changed.
-abbrev pub withTones : ℕ → ℕ → ℕ → ℕ → Turning → Turning
-withTones a b c edges t =
+abbrev pub newTones : ℕ → ℕ → ℕ → ℕ → Turning → Turning
+newTones a b c edges t =
     record {
       rest = t .rest;
       a = a;
@@ -80,8 +80,8 @@ withTones a b c edges t =
       half = t .half;
     }
 
-abbrev pub withEnvelope : ℕ → ℤ → Turning → Turning
-withEnvelope counter position t =
+abbrev pub newEnvelope : ℕ → ℤ → Turning → Turning
+newEnvelope counter position t =
     record {
       rest = t .rest;
       a = t .a;
@@ -96,8 +96,8 @@ withEnvelope counter position t =
       half = t .half;
     }
 
-abbrev pub withNoise : ℕ → ℕ → ℕ → Bool → Turning → Turning
-withNoise counter register output half t =
+abbrev pub newNoise : ℕ → ℕ → ℕ → Bool → Turning → Turning
+newNoise counter register output half t =
     record {
       rest = t .rest;
       a = t .a;
@@ -118,19 +118,19 @@ tonesTurned t =
     let a = toneStep (fiveBits 0) (t .rest .a .period) (t .a) (t .edges) in
     let b = toneStep (fiveBits 1) (t .rest .b .period) (t .b) (a .edges) in
     let c = toneStep (fiveBits 2) (t .rest .c .period) (t .c) (b .edges) in
-    withTones (a .counter) (b .counter) (c .counter) (c .edges) t
+    newTones (a .counter) (b .counter) (c .counter) (c .edges) t
 
 unfoldable pub envelopeTurned : Turning → Turning
 envelopeTurned t =
-    cond (leb (t .rest .envelope .period) (t .envelope + 1)) (withEnvelope 0 (nextPosition (t .position)) t)
-    (withEnvelope (t .envelope + 1) (t .position) t)
+    cond (leb (t .rest .envelope .period) (t .envelope + 1)) (newEnvelope 0 (nextPosition (t .position)) t)
+    (newEnvelope (t .envelope + 1) (t .position) t)
 
 unfoldable pub noiseTurned : Turning → Turning
 noiseTurned t =
-    cond (t .half) (withNoise (t .noise) (t .register) (t .output) false t)
+    cond (t .half) (newNoise (t .noise) (t .register) (t .output) false t)
     (cond (leb (max (t .rest .noise .period) 1) (t .noise + 1))
-    (withNoise 0 (registerStep (t .register)) (outputBy (t .register)) true t)
-    (withNoise (t .noise + 1) (t .register) (t .output) true t))
+    (newNoise 0 (registerStep (t .register)) (outputBy (t .register)) true t)
+    (newNoise (t .noise + 1) (t .register) (t .output) true t))
 
 unfoldable pub turned : Turning → Turning
 turned t = noiseTurned (envelopeTurned (tonesTurned t))

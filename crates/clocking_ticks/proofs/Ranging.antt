@@ -3,7 +3,7 @@ use Prim.Native.Nat.{ℕ, zero, suc, _+_}
 use Rattle.laws.proofs.Tests.{by-le}
 use Rattle.generators.specs.declared.Generators.{Generators}
 use Rattle.generators.specs.Range.{GeneratorsInRange}
-use Rattle.generators.proofs.Kept.{tick-in}
+use Rattle.generators.proofs.InRange.{tick-in}
 use Rattle.gates.specs.declared.Gates.{Gates}
 use Rattle.clocking_ticks.specs.declared.Ran.{Ran}
 use Rattle.clocking_ticks.specs.Ticks.{oneMore, ticking, ticked}

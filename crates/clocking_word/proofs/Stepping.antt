@@ -6,7 +6,7 @@ use native.Mathlib.Omega.{arith}
 use Rattle.laws.proofs.Tests.{by-le}
 use Rattle.generators.specs.declared.Generators.{Generators}
 use Rattle.generators.specs.Range.{GeneratorsInRange}
-use Rattle.generators.proofs.Kept.{tick-in}
+use Rattle.generators.proofs.InRange.{tick-in}
 use Rattle.envelope.proofs.Circling.{envelope-level-lt}
 use Rattle.gates.specs.declared.Gates.{Gates}
 use Rattle.mixer.proofs.Laws.{mixed-le}

@@ -1,14 +1,14 @@
 // One word. 01, "One tick, one word"; `compute_next_sample` of the crate's chip.rs.
 ghost use mathlib.Core.Path.{_≡_};
 ghost use Prim.Native.Nat.{_+_, _^_, _<_};
-ghost use Rattle.tables.specs.Envelope.{FollowsRule};
+ghost use Rattle.envelope_table.specs.Shapes.{FollowsRule};
 ghost use Rattle.tables.specs.Levels.{levels};
 ghost use Rattle.envelope.specs.Range.{EnvelopeInRange};
 ghost use Rattle.queue.specs.Waiting.{ring, QueueInRange};
 ghost use Rattle.chip.specs.Range.{CoreInRange};
 ghost use Rattle.clocking_word.specs.Word.{mixedOf, wordOf, smallOf};
 use chip::Core;
-use mixer::Channels;
+use channels::Channels;
 use mixer::Mixed;
 use registers::Voice;
 
@@ -86,5 +86,5 @@ fn mix_word<'t>(
         generators.b.is_half_amplitude(),
         generators.c.is_half_amplitude(),
     ];
-    channels.mix(volumes, halves, level, gate, table)
+    mixer::mix(channels, volumes, halves, level, gate, table)
 }

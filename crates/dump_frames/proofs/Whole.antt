@@ -16,7 +16,7 @@ use Rattle.dump.specs.Checked.{verdictOf}
 use Rattle.dump.proofs.Accepted.{placeFrom, Laid, accepted-laid}
 use Rattle.registers.specs.declared.Voice.{Voice}
 use Rattle.registers.specs.Range.{VoiceInRange}
-use Rattle.registers.proofs.Kept.{apply-in}
+use Rattle.registers.proofs.InRange.{apply-in}
 use Rattle.chip.specs.declared.Chip.{Chip}
 use Rattle.clocking_word.specs.Word.{wordOf}
 use Rattle.clocking_block.specs.Block.{afterOne, afterWords, wordsOf}

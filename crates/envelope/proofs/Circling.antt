@@ -6,10 +6,10 @@ use native.Mathlib.Omega.{arith}
 use borrow.Author.Tests.{leb-true, le-leb}
 use lib.IntN.{ℤ, pos, negsuc, +ℤ-one}
 use Rattle.laws.proofs.Tests.{by-le, by-lt}
-use Rattle.tables.specs.Envelope.{shapeEntry, offsetOf}
-use Rattle.tables.proofs.Laws.{shape-entry, offset-real, entry-lt}
+use Rattle.envelope_table.specs.Shapes.{shapeEntry, offsetOf}
+use Rattle.envelope_table.proofs.Waves.{shape-entry, offset-real, entry-lt}
 use Rattle.envelope.specs.declared.Envelope.{Envelope}
-use Rattle.envelope.specs.Envelope.{start, envelopeReset, envelopeSet, restarted, shaped, nextPosition, envelopeTick, placeOf, envelopeLevel}
+use Rattle.envelope.specs.Envelope.{restartPosition, envelopeReset, envelopeSet, restarted, shaped, nextPosition, envelopeTick, rowPlace, envelopeLevel}
 use Rattle.envelope.specs.Range.{PositionInRange, EnvelopeInRange}
 use Rattle.envelope.specs.Course.{walked}
 use Rattle.envelope.proofs.Places.{place-lt}
@@ -46,7 +46,7 @@ next-in (pos m) h = rw (next-round m (omega (arith, leb-true m 63 (h .to)))) (re
 next-in (negsuc zero) h = record { from = refl; to = refl }
 next-in (negsuc (suc m)) h = rw (next-below m) (record { from = le-leb m 63 (omega (arith, leb-true (suc m) 63 (h .from))); to = refl })
 
-start-in : PositionInRange start
+start-in : PositionInRange restartPosition
 start-in = record { from = refl; to = refl }
 
 pub envelope-reset-in : (e : Envelope) → EnvelopeInRange (envelopeReset e)
@@ -72,13 +72,13 @@ module _ {e : Envelope} (h : EnvelopeInRange e) where
   -- the level is a level index
   pub envelope-level-lt : envelopeLevel e < 32
   unfolding envelopeLevel
-  envelope-level-lt = entry-lt (e .offset) (placeOf (e .position)) (h .offset) (place-lt (e .position) (h .position))
+  envelope-level-lt = entry-lt (e .offset) (rowPlace (e .position)) (h .offset) (place-lt (e .position) (h .position))
 
   -- an envelope of a shape gives that shape's own entries
-  pub envelope-level-is : (shape : ℕ) → shape < 16 → e .offset ≡ offsetOf shape → envelopeLevel e ≡ shapeEntry shape (placeOf (e .position))
+  pub envelope-level-is : (shape : ℕ) → shape < 16 → e .offset ≡ offsetOf shape → envelopeLevel e ≡ shapeEntry shape (rowPlace (e .position))
   unfolding envelopeLevel
-  envelope-level-is shape k o = rw o (shape-entry shape (placeOf (e .position)) k (place-lt (e .position) (h .position)))
+  envelope-level-is shape k o = rw o (shape-entry shape (rowPlace (e .position)) k (place-lt (e .position) (h .position)))
 
 pub shaped-level : (shape : ℕ) (e : Envelope) → envelopeLevel (shaped shape e) ≡ shapeEntry (shape % 16) 0
-unfolding placeOf
+unfolding rowPlace
 shaped-level shape e = envelope-level-is (shaped-in shape e) (shape % 16) (omega arith) refl

@@ -12,31 +12,32 @@ use mir.Syntax.{w32, w64}
 use mir.Val.{Fits, SFits, toZ, ofZ}
 use Rattle.laws.proofs.Tests.{by-cond, on-le}
 use Rattle.envelope.specs.declared.Envelope.{Envelope}
-use Rattle.envelope.specs.Envelope.{nextPosition, envelopeTick, placeOf}
+use Rattle.envelope.specs.Envelope.{nextPosition, envelopeTick, rowPlace}
 use Rattle.envelope.specs.Range.{PositionInRange}
 
 pub same : (p : ℤ) → SFits w32 p → toZ w32 (ofZ w32 p) ≡ p
 same p h = toZ-ofZ h
 
-up-fits : (p : ℤ) → SFits w32 p → ltZ p (pos 63) ≡ true → SFits w32 (p +ℤ pos 1)
-up-fits (pos n) h e = record { sfits = omega (arith, ltb-true n 63 e) }
-up-fits (negsuc zero) h e = record { sfits = omega arith }
-up-fits (negsuc (suc n)) h e = rw (+ℤ-one (negsuc (suc n))) (record { sfits = omega (arith, h .sfits) })
+-- one more than a position below n
+up-fits : (p : ℤ) (n : ℕ) → n ≤ 2147483647 → SFits w32 p → ltZ p (pos n) ≡ true → SFits w32 (p +ℤ pos 1)
+up-fits (pos m) n k h e = record { sfits = omega (arith, ltb-true m n e) }
+up-fits (negsuc zero) n k h e = record { sfits = omega arith }
+up-fits (negsuc (suc m)) n k h e = rw (+ℤ-one (negsuc (suc m))) (record { sfits = omega (arith, h .sfits) })
 
-module _ (p : ℤ) (h : SFits w32 p) (e : ltZ (toZ w32 (ofZ w32 p)) (pos 63) ≡ true) where
-  below : ltZ p (pos 63) ≡ true
+module _ (p : ℤ) (n : ℕ) (k : n ≤ 2147483647) (h : SFits w32 p) (e : ltZ (toZ w32 (ofZ w32 p)) (pos n) ≡ true) where
+  below : ltZ p (pos n) ≡ true
   below = rw (same p h) at e
 
-  -- one more than a position below 63 fits, and is what is read back
+  -- fits, and is what is read back
   pub next-fits : SFits w32 (toZ w32 (ofZ w32 p) +ℤ pos 1)
-  next-fits = rw (same p h) (up-fits p h below)
+  next-fits = rw (same p h) (up-fits p n k h below)
 
   pub next-back : toZ w32 (ofZ w32 (toZ w32 (ofZ w32 p) +ℤ pos 1)) ≡ p +ℤ pos 1
   next-back = toZ-ofZ next-fits ∙ rw (same p h)
 
 next-small : (p : ℤ) → SFits w32 p → SFits w32 (nextPosition p)
 unfolding nextPosition
-next-small p h = by-cond (λ (z : ℤ). SFits w32 z) (ltZ p (pos 63)) _ _ (λ e. up-fits p h e) (λ e. record { sfits = omega arith })
+next-small p h = by-cond (λ (z : ℤ). SFits w32 z) (ltZ p (pos 63)) _ _ (λ e. up-fits p 63 (omega arith) h e) (λ e. record { sfits = omega arith })
 
 -- the position that a tick stores is the rule's
 pub late : (e : Envelope) (r : ℤ) → mag (e .position) < 2147483648 → r ≡ nextPosition (toZ w32 (ofZ w32 (e .position))) → e .period ≤ e .counter + 1
@@ -49,32 +50,32 @@ late e r h q k =
     on-le (e .period) (e .counter + 1) _ _ _ k (cc)
 
 -- positions -64..63, and their places 0..127
-narrow : (p : ℤ) → PositionInRange p → mag p ≤ 63
-narrow (pos n) h = leb-true n 63 (h .to)
-narrow (negsuc n) h = leb-true n 63 (h .from)
+mag-le : (p : ℤ) → PositionInRange p → mag p ≤ 63
+mag-le (pos n) h = leb-true n 63 (h .to)
+mag-le (negsuc n) h = leb-true n 63 (h .from)
 
-plain : (p : ℤ) → mag p ≤ 63 → p +ℤ pos 64 ≡ pos (placeOf p)
-unfolding placeOf
+plain : (p : ℤ) → mag p ≤ 63 → p +ℤ pos 64 ≡ pos (rowPlace p)
+unfolding rowPlace
 plain (pos n) h = refl
 plain (negsuc n) h = rw (le-ltb 64 (suc n) (omega arith))
 
-pub place-lt : (p : ℤ) → PositionInRange p → placeOf p < 128
-unfolding placeOf
-place-lt (pos n) r = omega (arith, narrow (pos n) r)
-place-lt (negsuc n) r = rw (le-ltb 64 (suc n) (omega (arith, narrow (negsuc n) r))) (omega arith)
+pub place-lt : (p : ℤ) → PositionInRange p → rowPlace p < 128
+unfolding rowPlace
+place-lt (pos n) r = omega (arith, mag-le (pos n) r)
+place-lt (negsuc n) r = rw (le-ltb 64 (suc n) (omega (arith, mag-le (negsuc n) r))) (omega arith)
 
 module _ (p : ℤ) (r : PositionInRange p) where
   pub fits : SFits w32 p
-  fits = record { sfits = omega (arith, narrow p r) }
+  fits = record { sfits = omega (arith, mag-le p r) }
 
-  place-sum : toZ w32 (ofZ w32 p) +ℤ pos 64 ≡ pos (placeOf p)
-  place-sum = rw (same p fits) (plain p (narrow p r))
+  place-sum : toZ w32 (ofZ w32 p) +ℤ pos 64 ≡ pos (rowPlace p)
+  place-sum = rw (same p fits) (plain p (mag-le p r))
 
   pub place-fits : SFits w32 (toZ w32 (ofZ w32 p) +ℤ pos 64)
   place-fits = rw place-sum (record { sfits = omega (arith, place-lt p r) })
 
-  pub place-back : toZ w32 (ofZ w32 (toZ w32 (ofZ w32 p) +ℤ pos 64)) ≡ pos (placeOf p)
+  pub place-back : toZ w32 (ofZ w32 (toZ w32 (ofZ w32 p) +ℤ pos 64)) ≡ pos (rowPlace p)
   place-back = toZ-ofZ place-fits ∙ place-sum
 
-  pub place-cast : (z : ℤ) → z ≡ pos (placeOf p) → T (nonNeg z) × Fits w64 (natAbs z)
+  pub place-cast : (z : ℤ) → z ≡ pos (rowPlace p) → T (nonNeg z) × Fits w64 (natAbs z)
   place-cast z e = rw e (tt, record { fits = omega (arith, place-lt p r) })

@@ -4,7 +4,7 @@ use Prim.Native.Nat.{ℕ, _+_, _%_}
 use lib.Dec.{leb}
 use lib.IntN.{ℤ, pos, negsuc, natAbs, _+ℤ_}
 use lib.Signed.{ltZ}
-use Rattle.tables.specs.Envelope.{offsetOf, entryAt}
+use Rattle.envelope_table.specs.Shapes.{offsetOf, envelopeEntry}
 use Rattle.envelope.specs.declared.Envelope.{Envelope}
 
 -- Reset sets envelope counter, position and shape offset to 0. It keeps envelope period.
@@ -16,16 +16,16 @@ abbrev pub envelopeSet : ℕ → Envelope → Envelope
 envelopeSet period e = record { counter = e .counter; period = period; position = e .position; offset = e .offset }
 
 -- -64: a position n below zero is `negsuc (n - 1)`
-abbrev pub start : ℤ
-start = negsuc 63
+abbrev pub restartPosition : ℤ
+restartPosition = negsuc 63
 
 -- `trigger_envelope` restarts at -64, counter 0, same shape.
 abbrev pub restarted : Envelope → Envelope
-restarted e = record { counter = 0; period = e .period; position = start; offset = e .offset }
+restarted e = record { counter = 0; period = e .period; position = restartPosition; offset = e .offset }
 
 -- 13 picks the shape and restarts at -64 with counter 0, even for the same byte.
 abbrev pub shaped : ℕ → Envelope → Envelope
-shaped shape e = record { counter = 0; period = e .period; position = start; offset = offsetOf (shape % 16) }
+shaped shape e = record { counter = 0; period = e .period; position = restartPosition; offset = offsetOf (shape % 16) }
 
 -- the position steps, 63 going to 0
 unfoldable pub nextPosition : ℤ → ℤ
@@ -42,9 +42,9 @@ unfoldable pub envelopeTick : Envelope → Envelope
 envelopeTick e = cond (leb (e .period) (e .counter + 1)) (stepped e) (counted e)
 
 -- the place in a shape's row: position plus 64
-unfoldable pub placeOf : ℤ → ℕ
-placeOf position = natAbs (position +ℤ pos 64)
+unfoldable pub rowPlace : ℤ → ℕ
+rowPlace position = natAbs (position +ℤ pos 64)
 
 -- the envelope's level: the entry of its shape at its position
 unfoldable pub envelopeLevel : Envelope → ℕ
-envelopeLevel e = entryAt (e .offset) (placeOf (e .position))
+envelopeLevel e = envelopeEntry (e .offset) (rowPlace (e .position))

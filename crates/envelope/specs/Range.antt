@@ -3,13 +3,13 @@ use mathlib.Core.Bool.{true}
 use mathlib.Core.Path.{_≡_}
 use lib.IntN.{ℤ, pos}
 use lib.Signed.{leZ}
-use Rattle.tables.specs.Envelope.{RealOffset}
+use Rattle.envelope_table.specs.Shapes.{RealOffset}
 use Rattle.envelope.specs.declared.Envelope.{Envelope}
-use Rattle.envelope.specs.Envelope.{start}
+use Rattle.envelope.specs.Envelope.{restartPosition}
 
 -- position -64..63
 pub record PositionInRange (position : ℤ) : Type 0 where
-  pub from : leZ start position ≡ true
+  pub from : leZ restartPosition position ≡ true
   pub to : leZ position (pos 63) ≡ true
 
 -- and a real shape offset

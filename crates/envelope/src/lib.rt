@@ -1,7 +1,7 @@
 // The envelope. 01, "Power-on and reset", "Registers and ports" and "One tick, one word"; the crate's generators.rs.
 ghost use mathlib.Core.Path.{_≡_};
-ghost use Rattle.tables.specs.Envelope.{FollowsRule};
-ghost use Rattle.envelope.specs.Envelope.{envelopeTick, envelopeReset, envelopeSet, shaped, restarted, nextPosition, placeOf, envelopeLevel};
+ghost use Rattle.envelope_table.specs.Shapes.{FollowsRule};
+ghost use Rattle.envelope.specs.Envelope.{envelopeTick, envelopeReset, envelopeSet, shaped, restarted, nextPosition, rowPlace, envelopeLevel};
 ghost use Rattle.envelope.specs.Range.{PositionInRange, EnvelopeInRange};
 
 // `offset` is where the shape's row begins.
@@ -13,7 +13,7 @@ pub struct Envelope {
 }
 
 // Where an envelope restarts: it runs up to 0 once, and then circles 0..63.
-const START: i32 = -64;
+pub const START: i32 = -64;
 
 impl Envelope {
     pub fn set_period(self, period: u16) -> Envelope
@@ -29,7 +29,7 @@ impl Envelope {
         ensures { λ r. ⌜ r ≡ shaped shape self ⌝ }
     {
         let mut next = self;
-        let offset = tables::shape_offset(shape);
+        let offset = envelope_table::shape_offset(shape);
         next.offset = offset;
         next.trigger()
     }
@@ -58,13 +58,13 @@ impl Envelope {
         next
     }
 
-    // `entries` are those of `tables::envelope_entries`.
+    // `entries` are those of `envelope_table::envelope_entries`.
     pub fn level(self, entries: &[u8; 1280]) -> u8
         requires { ⌜ EnvelopeInRange self ⌝ }
         requires { ⌜ FollowsRule (now entries) ⌝ }
         ensures { λ r. ⌜ r ≡ envelopeLevel self ⌝ }
     {
-        tables::envelope_entry(entries, self.offset, place(self.position))
+        envelope_table::envelope_entry(entries, self.offset, place(self.position))
     }
 
     // The period stays.
@@ -89,7 +89,7 @@ pub fn next_position(position: i32) -> i32
 // The place in a row: position plus 64.
 fn place(position: i32) -> usize
     requires { ⌜ PositionInRange position ⌝ }
-    ensures { λ r. ⌜ r ≡ placeOf position ⌝ }
+    ensures { λ r. ⌜ r ≡ rowPlace position ⌝ }
 {
     (position + 64) as usize
 }

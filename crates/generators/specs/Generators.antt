@@ -36,8 +36,12 @@ putTone n t g =
     (cond (eqb n 2) (record { a = g .a; b = g .b; c = t; noise = g .noise; envelope = g .envelope })
     g))
 
+-- one tone changed, and no other; past C there is none
+abbrev pub onTone : ℕ → (Tone → Tone) → Generators → Generators
+onTone n change g = putTone n (change (toneAt n g)) g
+
 unfoldable pub tonesSet : ℕ → ℕ → Bool → Generators → Generators
-tonesSet n period irq g = putTone n (toneSet period irq (toneAt n g)) g
+tonesSet n period irq g = onTone n (toneSet period irq) g
 
 unfoldable pub tonesReleased : Generators → Generators
 tonesReleased g =

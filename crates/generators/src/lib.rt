@@ -1,7 +1,6 @@
 // All generators together. 01, "Power-on and reset" and "One tick, one word"; the crate's generators.rs.
 ghost use mathlib.Core.Path.{_≡_};
-ghost use Prim.Native.Nat.{_*_, _%_, _^_};
-ghost use Rattle.generators.specs.Reset.{seeded, powerOnEdges, generatorsReset, generatorsNew};
+ghost use Rattle.generators.specs.Reset.{generatorsReset, generatorsNew};
 ghost use Rattle.generators.specs.Generators.{tick, edgesOf, toneAt, putTone, tonesSet, tonesReleased};
 use envelope::Envelope;
 use noise::Noise;
@@ -49,7 +48,7 @@ impl Generators {
     pub fn reset(self) -> Generators
         ensures { λ r. ⌜ r ≡ generatorsReset self ⌝ }
     {
-        let edges = power_on_edges();
+        let edges = power_on::power_on_edges();
         let a = Tone::reset(edges & BITS_A);
         let b = Tone::reset(edges & BITS_B);
         let c = Tone::reset(edges & BITS_C);
@@ -133,25 +132,4 @@ impl Generators {
         }
         next
     }
-}
-
-// 01, "Power-on and reset": A and B start high, C low.
-pub fn power_on_edges() -> u32
-    ensures { λ r. ⌜ r ≡ powerOnEdges ⌝ }
-{
-    (random_seed(1) as u32 & 0x421) * 0x1f
-}
-
-pub fn random_seed(seed: u32) -> u16
-    ensures { λ r. ⌜ r ≡ seeded seed ⌝ }
-{
-    let next = std::num::wrapping_add_u32(wrapping_mul(seed, 214013), 2531011);
-    (next / 65536 % 32768) as u16
-}
-
-fn wrapping_mul(a: u32, b: u32) -> u32
-    ensures { λ r. ⌜ r ≡ a * b % 2 ^ 32 ⌝ }
-{
-    let product = a as u64 * b as u64;
-    (product % 0x1_0000_0000) as u32
 }

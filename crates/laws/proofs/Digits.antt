@@ -1,7 +1,7 @@
 -- A mask goes through xor and through or, digit by digit. Assumes nothing.
 use mathlib.Core.Path.{_≡_, refl, sym, ap, ap₂, _∙_}
 use Prim.Native.Nat.{ℕ, zero, suc, _+_, _*_, _/_, _%_, _<_, min, max}
-use native.Mathlib.Nat.{lt-of-le-of-lt, min-le-left, max-le}
+use native.Mathlib.Nat.{lt-of-le-of-lt, min-le-left}
 use native.Mathlib.Omega.{arith}
 use lib.Arith.{bin-ind, digits-div, digits-mod}
 use lib.Bits.{bitAnd, bitOr, bitXor, differ, and-step, or-step, xor-step}

@@ -5,18 +5,21 @@ use Rattle.text_fields.specs.Fields.{needless, digits, decimalOf, hexValue, all
 use Rattle.text_lines.specs.Lines.{span, lineAt, startsWith, valueAt}
 use Rattle.dump_lines.specs.OneLine.{lineEntryAt, masterLineNo, rateLineNo, wordsLineNo, framesLineNo, isFrame, frameAt}
 use Rattle.dump.specs.Checked.{framesFrom, sized, verdictOf}
-use Rattle.tables.specs.Envelope.{shapeEntry, entryAt}
+use Rattle.envelope_table.specs.Shapes.{shapeEntry, envelopeEntry}
 use Rattle.tone.specs.Tone.{toneSet, toneTick}
 use Rattle.noise.specs.Noise.{registerStep, outputBy, noiseTick}
-use Rattle.envelope.specs.Envelope.{nextPosition, envelopeTick, placeOf, envelopeLevel}
+use Rattle.envelope.specs.Envelope.{nextPosition, envelopeTick, rowPlace, envelopeLevel}
 use Rattle.generators.specs.Generators.{tick, edgesOf, toneAt, putTone, tonesSet}
-use Rattle.generators.specs.Reset.{powerOnEdges, generatorsReset}
+use Rattle.power_on.specs.Seed.{powerOnEdges}
+use Rattle.generators.specs.Reset.{generatorsReset}
 use Rattle.gates.specs.Gates.{gatesFrom, gateOf}
-use Rattle.channel.specs.Channel.{drumOut, heard, sounded}
-use Rattle.channel.specs.Levels.{levelUsed, gatedLevel, loudnessOf}
-use Rattle.mixer.specs.Mix.{channelAt, putChannel, setMute, setDrum, mixed}
+use Rattle.drums.specs.Drums.{drumOut}
+use Rattle.channel.specs.Channel.{heard, sounded}
+use Rattle.levels.specs.Levels.{levelUsed, gatedLevel, loudnessOf}
+use Rattle.channels.specs.Channels.{channelAt, putChannel, setMute, setDrum}
+use Rattle.mixer.specs.Mix.{mixed}
 use Rattle.registers.specs.Registers.{pairAt, tonePeriodSet, noisePeriodSet, gatesSet, envelopePeriodSet, shapeSet, voiceSet, masked, applyRegister}
-use Rattle.registers.specs.Reset.{voiceReset}
+use Rattle.all_registers.specs.Reset.{voiceReset}
 use Rattle.queue.specs.Waiting.{writesFrom, waiting, due, queueIn}
 use Rattle.registers.specs.Writes.{appliedInOrder}
 use Rattle.queue_flush.specs.Applied.{registerWrites}
@@ -39,7 +42,7 @@ use Rattle.laws_bench_rules.specs.Setups.{ticks, shape8, drumAlone, rese
 use Rattle.laws_bench_rules.specs.Table.{Table}
 
 pub table : Table
-unfolding ticks shape8 drumAlone resetAfter31 needless digits decimalOf hexValue allHex hexByte span lineAt startsWith valueAt lineEntryAt masterLineNo rateLineNo wordsLineNo framesLineNo isFrame frameAt framesFrom sized verdictOf shapeEntry entryAt toneSet toneTick registerStep outputBy noiseTick nextPosition envelopeTick placeOf envelopeLevel tick edgesOf toneAt putTone tonesSet powerOnEdges generatorsReset gatesFrom gateOf drumOut heard sounded levelUsed gatedLevel loudnessOf channelAt putChannel setMute setDrum mixed pairAt tonePeriodSet noisePeriodSet gatesSet envelopePeriodSet shapeSet voiceSet masked applyRegister voiceReset writesFrom waiting due appliedInOrder registerWrites drain queueIn ticking ticked drained ranOf mixedOf wordOf afterWords ticksOf wordsOf clocksNo clocksIn bytesIn toneIn allOrNone noiseIn envelopeIn generatorsIn gatesIn voiceIn coreIn chipIn madeOf fresh withClocks resetOf resetCall writeRegister readRegister setChannelMute setDrumSampleOverride blockNumber blocked blockBuffer sampled frameWrites frameChip framePlace chipBefore frameWords wordsIn spelt linesOf totalText printed mul div ofInt
+unfolding ticks shape8 drumAlone resetAfter31 needless digits decimalOf hexValue allHex hexByte span lineAt startsWith valueAt lineEntryAt masterLineNo rateLineNo wordsLineNo framesLineNo isFrame frameAt framesFrom sized verdictOf shapeEntry envelopeEntry toneSet toneTick registerStep outputBy noiseTick nextPosition envelopeTick rowPlace envelopeLevel tick edgesOf toneAt putTone tonesSet powerOnEdges generatorsReset gatesFrom gateOf drumOut heard sounded levelUsed gatedLevel loudnessOf channelAt putChannel setMute setDrum mixed pairAt tonePeriodSet noisePeriodSet gatesSet envelopePeriodSet shapeSet voiceSet masked applyRegister voiceReset writesFrom waiting due appliedInOrder registerWrites drain queueIn ticking ticked drained ranOf mixedOf wordOf afterWords ticksOf wordsOf clocksNo clocksIn bytesIn toneIn allOrNone noiseIn envelopeIn generatorsIn gatesIn voiceIn coreIn chipIn madeOf fresh withClocks resetOf resetCall writeRegister readRegister setChannelMute setDrumSampleOverride blockNumber blocked blockBuffer sampled frameWrites frameChip framePlace chipBefore frameWords wordsIn spelt linesOf totalText printed mul div ofInt
 table =
     record {
       seed = refl;

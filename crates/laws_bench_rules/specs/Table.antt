@@ -2,11 +2,11 @@
 use mathlib.Core.List.{[], _∷_, map}
 use mathlib.Core.Path.{_≡_}
 use lib.IntN.{pos}
-use Rattle.tables.specs.Envelope.{offsetOf, entryAt}
-use Rattle.envelope.specs.Envelope.{placeOf, envelopeLevel}
+use Rattle.envelope_table.specs.Shapes.{offsetOf, envelopeEntry}
+use Rattle.envelope.specs.Envelope.{rowPlace, envelopeLevel}
 use Rattle.generators.specs.Generators.{edgesOf}
-use Rattle.generators.specs.Reset.{seeded, powerOnEdges}
-use Rattle.channel.specs.Channel.{float, drumOut}
+use Rattle.power_on.specs.Seed.{seeded, powerOnEdges}
+use Rattle.drums.specs.Drums.{float, drumOut}
 use Rattle.answers.specs.Answers.{answered, byteAnswer}
 use Rattle.calls_making.specs.Making.{fresh, withClocks}
 use Rattle.calls_registers.specs.Stored.{readRegister}
@@ -38,7 +38,7 @@ pub record Table : Type 0 where
   -- P master 7, rate 1 gives 3.
   pub master-7 : withClocks 7 1 ≡ answered 3 fresh
   -- P shape 8: position 63 is 0, then position 0 is 31. The entries, and a chip's envelope 127 and 128 ticks after R13 = 8.
-  pub shape-8 : (entryAt (offsetOf 8) (placeOf (pos 63)) ≡ 0) × (entryAt (offsetOf 8) (placeOf (pos 0)) ≡ 31)
+  pub shape-8 : (envelopeEntry (offsetOf 8) (rowPlace (pos 63)) ≡ 0) × (envelopeEntry (offsetOf 8) (rowPlace (pos 0)) ≡ 31)
   pub position-63 : (envelopeAfter 127 shape8 .position ≡ pos 63) × (envelopeLevel (envelopeAfter 127 shape8) ≡ 0)
   pub position-0 : (envelopeAfter 128 shape8 .position ≡ pos 0) × (envelopeLevel (envelopeAfter 128 shape8) ≡ 31)
   -- P drum 1.0 gives 2730.

@@ -7,12 +7,13 @@ use native.Mathlib.Omega.{arith}
 use lib.Dec.{leb, eqb}
 use Rattle.laws.proofs.Tests.{by-cond, by-eq}
 use Rattle.envelope.proofs.Circling.{restarted-in}
-use Rattle.generators.proofs.Kept.{tones-released-in}
+use Rattle.generators.proofs.InRange.{tones-released-in}
 use Rattle.channel.specs.declared.Drum.{Drum}
-use Rattle.mixer.specs.Mix.{setMute, setDrum}
+use Rattle.channels.specs.Channels.{setMute, setDrum}
 use Rattle.registers.specs.declared.Voice.{Voice}
 use Rattle.registers.specs.Range.{VoiceInRange}
-use Rattle.registers.proofs.Kept.{apply-in, loaded-in, reset-in, new-in}
+use Rattle.registers.proofs.InRange.{apply-in, loaded-in}
+use Rattle.all_registers.proofs.InRange.{reset-in, new-in}
 use Rattle.queue.specs.Waiting.{waiting, push}
 use Rattle.queue.proofs.Laws.{empty-kept, emptied-kept, push-kept}
 use Rattle.queue_flush.proofs.Applying.{applied-in}

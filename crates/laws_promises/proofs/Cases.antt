@@ -5,18 +5,19 @@ use mathlib.Core.Path.{_≡_, refl}
 use Prim.Native.Nat.{ℕ}
 use lib.IntN.{negsuc}
 use lib.ListN.{length}
-use Rattle.tables.specs.Envelope.{shapeEntry, entryAt}
+use Rattle.envelope_table.specs.Shapes.{shapeEntry, envelopeEntry}
 use Rattle.tone.specs.Tone.{toneSet, toneTick}
 use Rattle.noise.specs.Noise.{registerStep, outputBy, noiseTick}
-use Rattle.envelope.specs.Envelope.{nextPosition, envelopeTick, placeOf, envelopeLevel}
+use Rattle.envelope.specs.Envelope.{nextPosition, envelopeTick, rowPlace, envelopeLevel}
 use Rattle.generators.specs.Generators.{tick, edgesOf, toneAt, putTone, tonesSet}
-use Rattle.generators.specs.Reset.{seeded, powerOnEdges, generatorsReset}
+use Rattle.power_on.specs.Seed.{seeded, powerOnEdges}
+use Rattle.generators.specs.Reset.{generatorsReset}
 use Rattle.gates.specs.Gates.{gatesFrom, gateOf}
 use Rattle.channel.specs.Channel.{heard, sounded}
-use Rattle.channel.specs.Levels.{levelUsed, gatedLevel, loudnessOf}
+use Rattle.levels.specs.Levels.{levelUsed, gatedLevel, loudnessOf}
 use Rattle.mixer.specs.Mix.{mixed}
 use Rattle.registers.specs.Registers.{pairAt, tonePeriodSet, noisePeriodSet, gatesSet, envelopePeriodSet, shapeSet, voiceSet, masked, applyRegister}
-use Rattle.registers.specs.Reset.{voiceReset}
+use Rattle.all_registers.specs.Reset.{voiceReset}
 use Rattle.queue.specs.Waiting.{writesFrom, waiting, due, late, push, queueIn}
 use Rattle.registers.specs.Writes.{appliedInOrder}
 use Rattle.queue_flush.specs.Applied.{registerWrites}
@@ -65,5 +66,5 @@ pub cases : (map (λ (w : Entry). w .ticks) (words four-words) ≡ 6 ∷ 6 ∷ 6
     × (ledger (late-then-early ++ reset ∷ compute-next-sample ∷ []) fresh blank .accepted ≡ [])
     × (ledger (write-port 0 13 ∷ write-port 2 8 ∷ three-words) fresh blank .restarted ≡ true)
     × (positionOf (after (write-port 0 13 ∷ write-port 2 8 ∷ four-words) fresh) ≡ negsuc 40)
-unfolding shapeEntry entryAt toneSet toneTick registerStep outputBy noiseTick nextPosition envelopeTick placeOf envelopeLevel tick edgesOf toneAt putTone tonesSet seeded powerOnEdges generatorsReset gatesFrom gateOf heard sounded levelUsed gatedLevel loudnessOf mixed pairAt tonePeriodSet noisePeriodSet gatesSet envelopePeriodSet shapeSet voiceSet masked applyRegister voiceReset writesFrom waiting due late appliedInOrder registerWrites push drain queueIn ticking ticked drained ranOf mixedOf wordOf afterWords ticksOf clocksNo clocksIn bytesIn toneIn allOrNone noiseIn envelopeIn generatorsIn gatesIn voiceIn coreIn chipIn madeOf fresh resetOf resetCall writePort setCpuCycle syncSampleCycle flushPendingWrites blockNumber blocked sampled answers after entries enters entered ledger reach
+unfolding shapeEntry envelopeEntry toneSet toneTick registerStep outputBy noiseTick nextPosition envelopeTick rowPlace envelopeLevel tick edgesOf toneAt putTone tonesSet seeded powerOnEdges generatorsReset gatesFrom gateOf heard sounded levelUsed gatedLevel loudnessOf mixed pairAt tonePeriodSet noisePeriodSet gatesSet envelopePeriodSet shapeSet voiceSet masked applyRegister voiceReset writesFrom waiting due late appliedInOrder registerWrites push drain queueIn ticking ticked drained ranOf mixedOf wordOf afterWords ticksOf clocksNo clocksIn bytesIn toneIn allOrNone noiseIn envelopeIn generatorsIn gatesIn voiceIn coreIn chipIn madeOf fresh resetOf resetCall writePort setCpuCycle syncSampleCycle flushPendingWrites blockNumber blocked sampled answers after entries enters entered ledger reach
 cases = (refl, refl, refl, refl, refl, refl, refl, refl, refl)

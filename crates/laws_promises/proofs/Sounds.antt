@@ -21,11 +21,11 @@ use Rattle.generators.specs.declared.Generators.{Generators}
 use Rattle.generators.specs.Generators.{tick, toneAt, putTone, tonesSet, tonesReleased}
 use Rattle.generators.specs.Reset.{generatorsReset}
 use Rattle.generators.specs.Range.{GeneratorsInRange}
-use Rattle.generators.proofs.Kept.{tick-in}
+use Rattle.generators.proofs.InRange.{tick-in}
 use Rattle.gates.specs.declared.Gates.{Gates}
 use Rattle.registers.specs.declared.Voice.{Voice}
 use Rattle.registers.specs.Registers.{pairAt, tonePeriodSet, noisePeriodSet, gatesSet, envelopePeriodSet, shapeSet, voiceSet, applyRegister, loadedFrom}
-use Rattle.registers.specs.Reset.{voiceReset}
+use Rattle.all_registers.specs.Reset.{voiceReset}
 use Rattle.queue.specs.declared.Write.{Write}
 use Rattle.registers.specs.Writes.{appliedInOrder}
 use Rattle.queue_flush.specs.Applied.{applyAll, registerWrites}

@@ -1,10 +1,10 @@
--- The bound of a word, for a caller's proof to lean on; `ByNumber.antt` has the laws of channels by their number. 01, "One tick, one word". Assumes nothing.
+-- The bound of a word, for a caller's proof to lean on. 01, "One tick, one word". Assumes nothing.
 use mathlib.Core.Bool.{Bool}
 use mathlib.Core.List.{List}
 use Prim.Native.Nat.{ℕ, _+_, _/_, _≤_, _<_}
 use native.Mathlib.Omega.{arith}
 use Rattle.channel.proofs.Laws.{sounded-le}
-use Rattle.mixer.specs.declared.Channels.{Channels}
+use Rattle.channels.specs.declared.Channels.{Channels}
 use Rattle.mixer.specs.Mix.{mixed}
 
 -- a channel gives at most 10922, and a word at most three times that

@@ -2,7 +2,7 @@
 use mathlib.Core.List.{List, [], _∷_}
 use Rattle.registers.specs.declared.Voice.{Voice}
 use Rattle.registers.specs.Range.{VoiceInRange}
-use Rattle.registers.proofs.Kept.{apply-in}
+use Rattle.registers.proofs.InRange.{apply-in}
 use Rattle.queue.specs.declared.Write.{Write}
 use Rattle.registers.specs.Writes.{appliedInOrder}
 use Rattle.queue_flush.specs.Applied.{applyAll, registerWrites}

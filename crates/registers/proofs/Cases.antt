@@ -1,6 +1,6 @@
 -- What a write to each register sets, from the register's number. Assumes nothing.
 use mathlib.Core.Path.{_≡_, refl}
-use Prim.Native.Nat.{ℕ, _/_, _≤_, _<_}
+use Prim.Native.Nat.{ℕ, _/_, _≤_}
 use native.Mathlib.Omega.{arith}
 use Rattle.laws.proofs.Tests.{on-le, on-gt, on-eq, on-ne, by-eq}
 use Rattle.registers.specs.declared.Voice.{Voice}

@@ -1,7 +1,7 @@
 -- Writes applied in order: joined lists are applied one after the other, and writes of the same bytes are the same. Assumes nothing.
 use mathlib.Core.List.{List, [], _∷_, _++_}
 use mathlib.Core.Path.{_≡_, refl}
-use Prim.Native.Nat.{ℕ, zero, suc, _+_, _≤_, _<_}
+use Prim.Native.Nat.{ℕ, zero, suc, _+_, _<_}
 use native.Mathlib.Omega.{arith}
 use Rattle.registers.specs.declared.Voice.{Voice}
 use Rattle.registers.specs.Registers.{applyRegister}

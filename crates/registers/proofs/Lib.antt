@@ -1,4 +1,3 @@
 pub mod Cases
 pub mod InOrder
-pub mod Loading
-pub mod Kept
+pub mod InRange

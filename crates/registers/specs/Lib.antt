@@ -1,4 +1,3 @@
 pub mod Registers
 pub mod Writes
-pub mod Reset
 pub mod Range

@@ -2,8 +2,6 @@
 ghost use mathlib.Core.Path.{_≡_};
 ghost use Prim.Native.Nat.{_+_, _*_, _<_};
 ghost use Rattle.registers.specs.Registers.{masked, pairAt, tonePeriodSet, noisePeriodSet, gatesSet, envelopePeriodSet, shapeSet, voiceSet, applyRegister};
-ghost use Rattle.registers.specs.Writes.{loaded};
-ghost use Rattle.registers.specs.Reset.{voiceReset, voiceNew};
 use gates::Gates;
 use generators::Generators;
 
@@ -18,35 +16,6 @@ pub struct Voice {
 pub const REGISTERS: u8 = 14;
 
 impl Voice {
-    pub fn new() -> Voice
-        ensures { λ r. ⌜ r ≡ voiceNew ⌝ }
-    {
-        let generators = Generators::new();
-        let gates = Gates { tone: 0, noise: 0 };
-        let blank = Voice {
-            registers: [0; 14],
-            generators,
-            gates,
-            irq: false,
-        };
-        blank.reset()
-    }
-
-    // 01: "registers 0 and then 0x3F to R7"
-    pub fn reset(self) -> Voice
-        ensures { λ r. ⌜ r ≡ voiceReset self ⌝ }
-    {
-        let generators = self.generators.reset();
-        let gates = Gates { tone: 0, noise: 0 };
-        let zeros = Voice {
-            registers: [0; 14],
-            generators,
-            gates,
-            irq: false,
-        };
-        zeros.apply_register(7, 0x3f)
-    }
-
     // A write to a register of 14 and above changes nothing.
     pub fn apply_register(self, register: u8, value: u8) -> Voice
         ensures { λ r. ⌜ r ≡ applyRegister register value self ⌝ }
@@ -59,20 +28,6 @@ impl Voice {
         let mut next = self;
         next.registers[at] = byte;
         next.set(register)
-    }
-
-    // Bytes 0 to 13 in order.
-    pub fn load_registers(self, bytes: [u8; 16]) -> Voice
-        ensures { λ r. ⌜ r ≡ loaded bytes self ⌝ }
-    {
-        let mut next = self;
-        let mut i: u8 = 0;
-        while i < REGISTERS {
-            let at = i as usize;
-            next = next.apply_register(i, bytes[at]);
-            i = i + 1;
-        }
-        next
     }
 
     // The stored byte has changed: what it sets follows.

@@ -3,7 +3,7 @@ use crate::numbers;
 use chip::Chip;
 use chip::Core;
 use generators::Generators;
-use mixer::Channels;
+use channels::Channels;
 use registers::Voice;
 use script_print::put_form;
 use script_print::put_hex_bytes;

@@ -4,7 +4,7 @@ use crate::say::form;
 use crate::shown;
 use channel::Channel;
 use channel::Drum;
-use mixer::Channels;
+use channels::Channels;
 use mixer::Mixed;
 
 pub fn go(kind: u64, steps: u64) {

@@ -102,7 +102,7 @@ fn level_of(e: Envelope) -> u64 {
     if e.offset > 1152 {
         return 99;
     }
-    let entries = tables::envelope_entries();
+    let entries = envelope_table::envelope_entries();
     e.level(&entries) as u64
 }
 
@@ -149,7 +149,7 @@ fn place(kind: u64, n: u32, i: u8) {
     match kind {
         form::REGISTER_MASKS => say::hex(tables::register_mask(i as usize % 14) as u32),
         form::GATE_MASKS => say::hex(tables::gate_mask(i)),
-        form::POWER_ON => say::hex(generators::power_on_edges()),
+        form::POWER_ON => say::hex(power_on::power_on_edges()),
         form::GATES => shown::gates(gates::Gates::from_register(i)),
         _ => say::number(number(kind, n, i)),
     }
@@ -157,10 +157,10 @@ fn place(kind: u64, n: u32, i: u8) {
 
 fn number(kind: u64, n: u32, i: u8) -> u64 {
     match kind {
-        form::OFFSETS => tables::shape_offset(i) as u64,
+        form::OFFSETS => envelope_table::shape_offset(i) as u64,
         form::LEVELS => table_level(i % 32),
         form::ROW => table_entry(n % 10, i % 128),
-        form::SEEDS => generators::random_seed(seed(i)) as u64,
+        form::SEEDS => power_on::random_seed(seed(i)) as u64,
         form::USED => channel::level_used(i, (n % 32) as u8) as u64,
         _ => channel::gated_level(i, n) as u64,
     }
@@ -185,6 +185,6 @@ fn table_level(i: u8) -> u64
 fn table_entry(row: u32, place: u8) -> u64
     requires { ⌜ (row < 10) × (place < 128) ⌝ }
 {
-    let entries = tables::envelope_entries();
-    tables::envelope_entry(&entries, row as u16 * 128, place as usize) as u64
+    let entries = envelope_table::envelope_entries();
+    envelope_table::envelope_entry(&entries, row as u16 * 128, place as usize) as u64
 }

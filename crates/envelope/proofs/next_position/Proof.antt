@@ -1,5 +1,6 @@
 -- `envelope::next_position` meets its contract: a position of 32 bits is read back as it was stored. Assumes nothing.
 use mathlib.Core.Path.{refl}
+use native.Mathlib.Omega.{arith}
 use mir.Syntax.{w32}
 use mir.Val.{SFits}
 use Rattle.laws.proofs.Tests.{on-true, on-false}
@@ -12,11 +13,11 @@ held : (c : tie.Start) → SFits w32 (c .args .position)
 held c = record { sfits = c .good .0 }
 
 add-result : tie.Need-add-result
-add-result c = next-fits _ (held (c .before)) (c .if1 .taken)
+add-result c = next-fits _ _ (omega arith) (held (c .before)) (c .if1 .taken)
 
 returns : tie.Need-returns
 unfolding nextPosition
-returns c = on-true _ _ _ _ (rw (same _ (held (c .before))) at (c .if1 .taken)) (next-back _ (held (c .before)) (c .if1 .taken))
+returns c = on-true _ _ _ _ (rw (same _ (held (c .before))) at (c .if1 .taken)) (next-back _ _ (omega arith) (held (c .before)) (c .if1 .taken))
 
 returns-2 : tie.Need-returns-2
 unfolding nextPosition

@@ -1,5 +1,4 @@
 -- `registers::masked_byte` meets its contract. Assumes nothing.
-use Rattle.laws.proofs.Tests.{tests}
 use Rattle.registers.specs.Registers.{masked}
 use borrow.Author.Needs.{needs}
 use Rattle.registers.proofs.masked_byte.Statement.{statement}

@@ -1,7 +1,7 @@
 -- `channel::Channel::sound` meets its contract: it joins its three callees' promises, and both level indices are below 32. Assumes nothing.
 use borrow.Author.Needs.{needs}
 use Rattle.channel.specs.Channel.{sounded}
-use Rattle.channel.proofs.Laws.{used-lt, gated-lt}
+use Rattle.levels.proofs.Laws.{used-lt, gated-lt}
 use Rattle.channel.proofs.Channel.sound.Statement.{statement}
 use Rattle.channel.proofs.Channel.sound.Tie as tie
 

@@ -1,7 +1,7 @@
 -- `clocking_generators::Turning::of` meets its contract. Assumes nothing.
 use native.Mathlib.Omega.{arith}
 use borrow.Author.Needs.{needs}
-use Rattle.clocking_generators.proofs.Held.{held-of, kept, narrow}
+use Rattle.clocking_generators.proofs.Held.{held-of, kept, position-mag}
 use Rattle.clocking_generators.specs.Turning.{turningOf}
 use Rattle.clocking_generators.proofs.Turning.of.Statement.{statement}
 use Rattle.clocking_generators.proofs.Turning.of.Tie as tie
@@ -29,7 +29,7 @@ unfolding turningOf
 returns c =
     let start = c .before .before .before .before .before .before .before in
     let p = start .args .generators .envelope .position in
-    let same = kept p (narrow p (start .pre .envelope .position)) in
+    let same = kept p (position-mag p (start .pre .envelope .position)) in
     let edges = c .before .before .before .edges .ensures in
     let known = c .struct-told .given in (
       rw (edges, same),

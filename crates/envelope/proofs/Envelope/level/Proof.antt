@@ -5,16 +5,16 @@ use borrow.Author.Needs.{needs}
 use lib.IntN.{ℤ}
 use mir.Syntax.{w32}
 use mir.Val.{toZ, ofZ}
-use Rattle.tables.specs.Envelope.{entryAt}
-use Rattle.envelope.specs.Envelope.{placeOf, envelopeLevel}
+use Rattle.envelope_table.specs.Shapes.{envelopeEntry}
+use Rattle.envelope.specs.Envelope.{rowPlace, envelopeLevel}
 use Rattle.envelope.specs.Range.{PositionInRange}
 use Rattle.envelope.proofs.Places.{fits, same, place-lt}
 use Rattle.envelope.proofs.Envelope.level.Statement.{statement}
 use Rattle.envelope.proofs.Envelope.level.Tie as tie
 
 -- the position that is passed is the one stored
-placed : {p : ℤ} {n : ℕ} → n ≡ placeOf (toZ w32 (ofZ w32 p)) → PositionInRange p → n ≡ placeOf p
-placed {p} e r = e ∙ ap placeOf (same p (fits p r))
+placed : {p : ℤ} {n : ℕ} → n ≡ rowPlace (toZ w32 (ofZ w32 p)) → PositionInRange p → n ≡ rowPlace p
+placed {p} e r = e ∙ ap rowPlace (same p (fits p r))
 
 place-requires : tie.Need-place-requires
 place-requires c κs = search needs
@@ -27,7 +27,7 @@ envelope-entry-requires c κs =
 
 returns : tie.Need-returns
 unfolding envelopeLevel
-returns c = c .envelope-entry .ensures ∙ ap (entryAt (c .before .before .before .args .self .offset)) (placed (c .before .place .ensures) (c .before .before .before .pre .0 .position))
+returns c = c .envelope-entry .ensures ∙ ap (envelopeEntry (c .before .before .before .args .self .offset)) (placed (c .before .place .ensures) (c .before .before .before .pre .0 .position))
 
 pub level-spec : {M : Type 1} → statement M
 level-spec = tie.close (tie.spec place-requires envelope-entry-requires returns)

@@ -11,7 +11,7 @@ trigger-requires : tie.Need-trigger-requires
 trigger-requires c κs = search needs
 
 returns : tie.Need-returns
-returns c = c .trigger .ensures ∙ rw (c .before .shape-offset .ensures)
+returns c = c .trigger .ensures ∙ rw (← c .before .shape-offset .ensures)
 
 pub set-shape-spec : {M : Type 1} → statement M
 set-shape-spec = tie.close (tie.spec shape-offset-requires trigger-requires returns)

@@ -1,7 +1,5 @@
 -- `generators::Generators::apply_pending_resets` meets its contract. Assumes nothing.
-use Rattle.laws.proofs.Tests.{tests}
 use Rattle.generators.specs.Generators.{tonesReleased}
-use Rattle.tone.specs.Tone.{toneReleased}
 use borrow.Author.Needs.{needs}
 use Rattle.generators.proofs.Generators.apply_pending_resets.Statement.{statement}
 use Rattle.generators.proofs.Generators.apply_pending_resets.Tie as tie

@@ -1,6 +1,4 @@
 -- `generators::Generators::new` meets its contract. Assumes nothing.
-use Rattle.laws.proofs.Tests.{tests}
-use Rattle.generators.specs.Reset.{generatorsReset}
 use borrow.Author.Needs.{needs}
 use Rattle.generators.proofs.Generators.new.Statement.{statement}
 use Rattle.generators.proofs.Generators.new.Tie as tie

@@ -1,6 +1,5 @@
 -- `generators::Generators::reset` meets its contract. Assumes nothing.
-use Rattle.laws.proofs.Tests.{tests}
-use Rattle.generators.specs.Reset.{generatorsReset, powerOnEdges}
+use Rattle.generators.specs.Reset.{generatorsReset}
 use borrow.Author.Needs.{needs}
 use Rattle.generators.proofs.Generators.reset.Statement.{statement}
 use Rattle.generators.proofs.Generators.reset.Tie as tie

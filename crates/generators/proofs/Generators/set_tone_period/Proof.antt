@@ -1,7 +1,5 @@
 -- `generators::Generators::set_tone_period` meets its contract. Assumes nothing.
-use Rattle.laws.proofs.Tests.{tests}
-use Rattle.generators.specs.Generators.{putTone, toneAt, tonesSet}
-use Rattle.tone.specs.Tone.{toneSet}
+use Rattle.generators.specs.Generators.{tonesSet}
 use borrow.Author.Needs.{needs}
 use Rattle.generators.proofs.Generators.set_tone_period.Statement.{statement}
 use Rattle.generators.proofs.Generators.set_tone_period.Tie as tie

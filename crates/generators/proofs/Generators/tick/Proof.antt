@@ -1,9 +1,5 @@
 -- `generators::Generators::tick` meets its contract. Assumes nothing.
-use Rattle.laws.proofs.Tests.{tests}
-use Rattle.envelope.specs.Envelope.{envelopeTick, nextPosition}
 use Rattle.generators.specs.Generators.{tick}
-use Rattle.noise.specs.Noise.{noiseTick, outputBy, registerStep}
-use Rattle.tone.specs.Tone.{toneTick}
 use borrow.Author.Needs.{needs}
 use Rattle.generators.proofs.Generators.tick.Statement.{statement}
 use Rattle.generators.proofs.Generators.tick.Tie as tie

@@ -21,7 +21,7 @@ set-requires c κs = search needs
 
 returns-2 : tie.Need-returns-2
 unfolding applyRegister
-returns-2 c = on-gt 14 _ _ _ _ (c .before .before .if1 .left) (c .set .ensures ∙ rw (c .before .masked-byte .ensures))
+returns-2 c = on-gt 14 _ _ _ _ (c .before .before .if1 .left) (c .set .ensures ∙ rw (← c .before .masked-byte .ensures))
 
 pub apply-register-spec : {M : Type 1} → statement M
 apply-register-spec =

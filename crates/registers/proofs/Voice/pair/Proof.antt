@@ -1,5 +1,4 @@
 -- `registers::Voice::pair` meets its contract. Assumes nothing.
-use Rattle.laws.proofs.Tests.{tests}
 use Rattle.registers.specs.Registers.{pairAt}
 use borrow.Author.Needs.{needs}
 use Rattle.registers.proofs.Voice.pair.Statement.{statement}

@@ -1,6 +1,5 @@
 -- `registers::Voice::set_envelope_period` meets its contract. Assumes nothing.
-use Rattle.laws.proofs.Tests.{tests}
-use Rattle.registers.specs.Registers.{envelopePeriodSet, pairAt}
+use Rattle.registers.specs.Registers.{envelopePeriodSet}
 use borrow.Author.Needs.{needs}
 use Rattle.registers.proofs.Voice.set_envelope_period.Statement.{statement}
 use Rattle.registers.proofs.Voice.set_envelope_period.Tie as tie

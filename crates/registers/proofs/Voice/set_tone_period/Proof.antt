@@ -1,6 +1,5 @@
 -- `registers::Voice::set_tone_period` meets its contract. Assumes nothing.
-use Rattle.laws.proofs.Tests.{tests}
-use Rattle.registers.specs.Registers.{pairAt, tonePeriodSet}
+use Rattle.registers.specs.Registers.{tonePeriodSet}
 use borrow.Author.Needs.{needs}
 use Rattle.registers.proofs.Voice.set_tone_period.Statement.{statement}
 use Rattle.registers.proofs.Voice.set_tone_period.Tie as tie

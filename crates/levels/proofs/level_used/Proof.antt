@@ -1,0 +1,20 @@
+-- `levels::level_used` meets its contract: the code tests the same bit as `levelUsed`. Assumes nothing.
+use borrow.Author.Needs.{needs}
+use Rattle.laws.proofs.Tests.{tests}
+use Rattle.levels.specs.Levels.{levelUsed}
+use Rattle.levels.proofs.level_used.Statement.{statement}
+use Rattle.levels.proofs.level_used.Tie as tie
+
+mul-result : tie.Need-mul-result
+mul-result c = search needs
+
+returns : tie.Need-returns
+unfolding levelUsed
+returns c = search tests
+
+returns-2 : tie.Need-returns-2
+unfolding levelUsed
+returns-2 c = search tests
+
+pub level-used-spec : {M : Type 1} → statement M
+level-used-spec = tie.close (tie.spec mul-result returns returns-2)
