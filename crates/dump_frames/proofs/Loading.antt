@@ -14,7 +14,8 @@ use Rattle.laws.proofs.Tests.{by-same}
 use Rattle.text_fields.specs.Fields.{allHex, hexByte}
 use Rattle.laws.proofs.Lists.{both-parts}
 use Rattle.dump_lines.specs.OneLine.{isFrame}
-use Rattle.registers.specs.Registers.{applyRegister, loadedFrom}
+use Rattle.registers.specs.Registers.{applyRegister}
+use Rattle.registers.specs.Writes.{loadedFrom}
 use Rattle.registers.specs.declared.Voice.{Voice}
 use Rattle.dump_frames.specs.Frame.{writesFrom, frameWrites, written, Registers}
 

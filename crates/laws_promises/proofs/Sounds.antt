@@ -24,10 +24,10 @@ use Rattle.generators.specs.Range.{GeneratorsInRange}
 use Rattle.generators.proofs.InRange.{tick-in}
 use Rattle.gates.specs.declared.Gates.{Gates}
 use Rattle.registers.specs.declared.Voice.{Voice}
-use Rattle.registers.specs.Registers.{pairAt, tonePeriodSet, noisePeriodSet, gatesSet, envelopePeriodSet, shapeSet, voiceSet, applyRegister, loadedFrom}
+use Rattle.registers.specs.Registers.{pairAt, tonePeriodSet, noisePeriodSet, gatesSet, envelopePeriodSet, shapeSet, voiceSet, applyRegister}
+use Rattle.registers.specs.Writes.{loadedFrom, appliedInOrder}
 use Rattle.all_registers.specs.Reset.{voiceReset}
 use Rattle.queue.specs.declared.Write.{Write}
-use Rattle.registers.specs.Writes.{appliedInOrder}
 use Rattle.queue_flush.specs.Applied.{applyAll, registerWrites}
 use Rattle.clocking_ticks.specs.declared.Ran.{Ran}
 use Rattle.clocking_ticks.specs.Ticks.{oneMore, ticking, ticked}
