@@ -1,5 +1,5 @@
 -- A register write keeps a voice in range, whatever its number and byte. Assumes nothing.
-use mathlib.Core.List.{List}
+use mathlib.Core.List.{List, [], _∷_}
 use mathlib.Core.Path.{_≡_, refl}
 use Prim.Native.Nat.{ℕ, zero, suc, _+_, _*_, _/_, _≤_, _<_, zero-le}
 use native.Mathlib.Omega.{arith}
@@ -17,7 +17,8 @@ use Rattle.envelope.proofs.Circling.{envelope-set-in, shaped-in}
 use Rattle.generators.proofs.Kept.{tones-set-in, generators-reset-in, generators-new-in}
 use Rattle.gates.proofs.Laws.{gates-in-range}
 use Rattle.registers.specs.declared.Voice.{Voice}
-use Rattle.registers.specs.Registers.{byteAt, pairAt, tonePeriodSet, noisePeriodSet, gatesSet, envelopePeriodSet, shapeSet, voiceSet, masked, stored, applyRegister, loadedFrom, loaded}
+use Rattle.registers.specs.Registers.{byteAt, pairAt, tonePeriodSet, noisePeriodSet, gatesSet, envelopePeriodSet, shapeSet, voiceSet, masked, stored, applyRegister}
+use Rattle.registers.specs.Writes.{RegisterWrite, appliedInOrder, loaded}
 use Rattle.registers.specs.Reset.{zeros, voiceReset, voiceNew}
 use Rattle.registers.specs.Range.{BytesInRange, VoiceInRange}
 
@@ -106,13 +107,13 @@ pub apply-in : {v : Voice} (r x : ℕ) → VoiceInRange v → VoiceInRange (appl
 unfolding applyRegister
 apply-in r x h = by-le VoiceInRange 14 r (λ _. h) (λ k. set-in (stored-in h r x k) r)
 
-loaded-from-in : (n r : ℕ) (bytes : List ℕ) {v : Voice} → VoiceInRange v → VoiceInRange (loadedFrom n r bytes v)
-unfolding loadedFrom
-loaded-from-in zero r bytes h = h
-loaded-from-in (suc n) r bytes h = loaded-from-in n (r + 1) bytes (apply-in r (getD bytes r 0) h)
+pub applied-in : (ws : List RegisterWrite) {v : Voice} → VoiceInRange v → VoiceInRange (appliedInOrder ws v)
+unfolding appliedInOrder
+applied-in [] h = h
+applied-in (w ∷ ws) h = applied-in ws (apply-in (w .register) (w .value) h)
 
 pub loaded-in : (bytes : List ℕ) {v : Voice} → VoiceInRange v → VoiceInRange (loaded bytes v)
-loaded-in bytes h = loaded-from-in 14 0 bytes h
+loaded-in bytes h = applied-in _ h
 
 zeros-in : (g : Generators) → GeneratorsInRange g → VoiceInRange (zeros g)
 zeros-in g h =

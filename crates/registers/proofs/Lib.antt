@@ -1,3 +1,4 @@
 pub mod Cases
+pub mod InOrder
 pub mod Loading
 pub mod Kept

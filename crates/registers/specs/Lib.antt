@@ -1,3 +1,4 @@
 pub mod Registers
+pub mod Writes
 pub mod Reset
 pub mod Range

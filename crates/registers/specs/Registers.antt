@@ -1,7 +1,6 @@
 -- What a register write does. 01, "Registers and ports". Assumes nothing.
-use mathlib.Core.Bool.{Bool, cond}
-use mathlib.Core.List.{List}
-use Prim.Native.Nat.{ℕ, zero, suc, _+_, _*_, _/_}
+use mathlib.Core.Bool.{cond}
+use Prim.Native.Nat.{ℕ, _+_, _*_, _/_}
 use lib.Bits.{bitAnd}
 use lib.Dec.{leb, eqb}
 use lib.ListN.{getD, set}
@@ -82,12 +81,3 @@ stored register value v =
 -- Writes to registers 14 and up change nothing.
 unfoldable pub applyRegister : ℕ → ℕ → Voice → Voice
 applyRegister register value v = cond (leb 14 register) v (voiceSet register (stored register value v))
-
--- n writes in order, the bytes from `register` on
-unfoldable pub loadedFrom : ℕ → ℕ → List ℕ → Voice → Voice
-loadedFrom zero register bytes v = v
-loadedFrom (suc n) register bytes v = loadedFrom n (register + 1) bytes (applyRegister register (getD bytes register 0) v)
-
--- `load_registers` writes bytes 0 to 13 in order.
-abbrev pub loaded : List ℕ → Voice → Voice
-loaded bytes v = loadedFrom 14 0 bytes v

@@ -1,7 +1,8 @@
 // What a register write does. 01, "Registers and ports"; `apply_register` of the crate's chip.rs.
 ghost use mathlib.Core.Path.{_≡_};
 ghost use Prim.Native.Nat.{_+_, _*_, _<_};
-ghost use Rattle.registers.specs.Registers.{masked, pairAt, tonePeriodSet, noisePeriodSet, gatesSet, envelopePeriodSet, shapeSet, voiceSet, applyRegister, loaded};
+ghost use Rattle.registers.specs.Registers.{masked, pairAt, tonePeriodSet, noisePeriodSet, gatesSet, envelopePeriodSet, shapeSet, voiceSet, applyRegister};
+ghost use Rattle.registers.specs.Writes.{loaded};
 ghost use Rattle.registers.specs.Reset.{voiceReset, voiceNew};
 use gates::Gates;
 use generators::Generators;
