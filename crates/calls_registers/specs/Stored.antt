@@ -11,7 +11,8 @@ use Rattle.answers.specs.declared.Bytes.{Bytes}
 use Rattle.clocking.specs.declared.Chip.{Chip}
 use Rattle.chip.specs.Range.{chipIn}
 use Rattle.refusals.specs.Numbers.{accepted, outOfRange}
-use Rattle.registers.specs.Registers.{applyRegister, byteAt, loaded}
+use Rattle.registers.specs.Registers.{applyRegister, byteAt}
+use Rattle.registers.specs.Writes.{loaded}
 use Rattle.registers.specs.declared.Voice.{Voice}
 
 unfoldable pub writeRegister : ℕ → ℕ → Chip → Answered

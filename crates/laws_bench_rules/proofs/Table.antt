@@ -16,6 +16,7 @@ use Rattle.channel.specs.Channel.{drumOut, heard, sounded}
 use Rattle.channel.specs.Levels.{levelUsed, gatedLevel, loudnessOf}
 use Rattle.mixer.specs.Mix.{channelAt, putChannel, setMute, setDrum, mixed}
 use Rattle.registers.specs.Registers.{pairAt, tonePeriodSet, noisePeriodSet, gatesSet, envelopePeriodSet, shapeSet, voiceSet, masked, applyRegister}
+use Rattle.registers.specs.Writes.{appliedInOrder, registersFrom}
 use Rattle.registers.specs.Reset.{voiceReset}
 use Rattle.queue.specs.Waiting.{writesFrom, waiting, due, applyAll, drain, queueIn}
 use Rattle.clocking.specs.Ticks.{ticking, ticked}
@@ -27,15 +28,15 @@ use Rattle.calls_registers.specs.Stored.{writeRegister, readRegister}
 use Rattle.calls_effects.specs.Effects.{setChannelMute, setDrumSampleOverride}
 use Rattle.calls_words.specs.Blocks.{blockNumber, blocked, blockBuffer, sampled}
 use Rattle.dump_frames.specs.Frame.{frameWrites, frameChip}
-use Rattle.dump_frames.specs.Whole.{placeOf as framePlace, chipBefore, frameWords, wordsIn}
+use Rattle.dump_played.specs.Whole.{framePlace, chipBefore, frameWords, wordsIn, printed}
 use Rattle.text_put.specs.Text.{spelt}
-use Rattle.dump_output.specs.Words.{linesOf}
-use Rattle.dump_output.specs.Printed.{totalText, printed}
+use Rattle.dump_words.specs.Words.{linesOf}
+use Rattle.dump_output.specs.Printed.{totalText}
 use Rattle.laws_bench_rules.specs.Setups.{ticks, shape8, drumAlone, resetAfter31}
 use Rattle.laws_bench_rules.specs.Table.{Table}
 
 pub table : Table
-unfolding ticks shape8 drumAlone resetAfter31 needless digits decimalOf hexValue allHex hexByte span lineAt startsWith valueAt lineEntryAt masterLineNo rateLineNo wordsLineNo framesLineNo isFrame frameAt framesFrom sized verdictOf shapeEntry entryAt toneSet toneTick registerStep outputBy noiseTick nextPosition envelopeTick placeOf envelopeLevel tick edgesOf toneAt putTone tonesSet powerOnEdges generatorsReset gatesFrom gateOf drumOut heard sounded levelUsed gatedLevel loudnessOf channelAt putChannel setMute setDrum mixed pairAt tonePeriodSet noisePeriodSet gatesSet envelopePeriodSet shapeSet voiceSet masked applyRegister voiceReset writesFrom waiting due applyAll drain queueIn ticking ticked drained ranOf mixedOf wordOf afterWords ticksOf wordsOf clocksNo clocksIn bytesIn toneIn allOrNone noiseIn envelopeIn generatorsIn gatesIn voiceIn coreIn chipIn madeOf fresh withClocks resetOf resetCall writeRegister readRegister setChannelMute setDrumSampleOverride blockNumber blocked blockBuffer sampled frameWrites frameChip framePlace chipBefore frameWords wordsIn spelt linesOf totalText printed mul div ofInt
+unfolding ticks shape8 drumAlone resetAfter31 needless digits decimalOf hexValue allHex hexByte span lineAt startsWith valueAt lineEntryAt masterLineNo rateLineNo wordsLineNo framesLineNo isFrame frameAt framesFrom sized verdictOf shapeEntry entryAt toneSet toneTick registerStep outputBy noiseTick nextPosition envelopeTick placeOf envelopeLevel tick edgesOf toneAt putTone tonesSet powerOnEdges generatorsReset gatesFrom gateOf drumOut heard sounded levelUsed gatedLevel loudnessOf channelAt putChannel setMute setDrum mixed pairAt tonePeriodSet noisePeriodSet gatesSet envelopePeriodSet shapeSet voiceSet masked applyRegister appliedInOrder registersFrom voiceReset writesFrom waiting due applyAll drain queueIn ticking ticked drained ranOf mixedOf wordOf afterWords ticksOf wordsOf clocksNo clocksIn bytesIn toneIn allOrNone noiseIn envelopeIn generatorsIn gatesIn voiceIn coreIn chipIn madeOf fresh withClocks resetOf resetCall writeRegister readRegister setChannelMute setDrumSampleOverride blockNumber blocked blockBuffer sampled frameWrites frameChip framePlace chipBefore frameWords wordsIn spelt linesOf totalText printed mul div ofInt
 table =
     record {
       seed = refl;
