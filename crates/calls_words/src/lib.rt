@@ -70,7 +70,7 @@ fn block_no(start: u64, cycles: u64, words: usize) -> u8
     refusals::ACCEPTED
 }
 
-fn refused(chip: Chip, number: u8) -> Blocked
+pub fn refused(chip: Chip, number: u8) -> Blocked
     ensures { λ r. ⌜ r ≡ blockRefused number chip ⌝ }
 {
     let answer = Played {

@@ -1,10 +1,8 @@
 -- The bytes that hold a frame's registers, byte after byte; loading them is the frame's writes. Assumes nothing.
-use mathlib.Core.Bool.{Bool, true, false}
-use mathlib.Core.Path.{_≡_, refl, sym, ap, _∙_}
+use mathlib.Core.Bool.{true}
+use mathlib.Core.Path.{_≡_, ap, _∙_}
 use mathlib.Core.List.{List}
-use mathlib.Core.Logic.{inl, inr}
-use Prim.Native.Nat.{ℕ, zero, suc, _+_, _*_, _≤_, _<_}
-use native.Mathlib.Numerals.{add-one}
+use Prim.Native.Nat.{ℕ, _+_, _*_, _≤_, _<_}
 use native.Mathlib.Omega.{arith}
 use borrow.Author.Tests.{eqb-true}
 use lib.Dec.{eqb}
@@ -14,10 +12,10 @@ use Rattle.laws.proofs.Tests.{by-same}
 use Rattle.text_fields.specs.Fields.{allHex, hexByte}
 use Rattle.laws.proofs.Lists.{both-parts}
 use Rattle.dump_lines.specs.OneLine.{isFrame}
-use Rattle.registers.specs.Registers.{applyRegister}
-use Rattle.registers.specs.Writes.{loadedFrom}
+use Rattle.registers.specs.Writes.{RegisterWrite, appliedInOrder, loaded}
+use Rattle.registers.proofs.InOrder.{registers-same}
 use Rattle.registers.specs.declared.Voice.{Voice}
-use Rattle.dump_frames.specs.Frame.{writesFrom, frameWrites, written, Registers}
+use Rattle.dump_frames.specs.Frame.{frameWrites, Registers}
 
 -- a frame's value has 28 digits
 module _ (value : List ℕ) (e : isFrame value ≡ true) where
@@ -53,12 +51,8 @@ holding-on {value} {bytes} {i} {b} m h e =
 pub holding-ends : {value bytes : List ℕ} {i : ℕ} → Holding value bytes i → 14 ≤ i → Registers value bytes
 holding-ends m h k g = m .held k (omega arith)
 
-module _ (value bytes : List ℕ) (r : Registers value bytes) where
-  loaded-from : (n k : ℕ) → n + k ≤ 14 → (v : Voice) → loadedFrom n k bytes v ≡ written (writesFrom n k value) v
-  unfolding loadedFrom
-  loaded-from zero k h v = refl
-  loaded-from (suc n) k h v = rw (r k (omega arith)) (loaded-from n (k + 1) (omega arith) _)
-
-  pub loaded-frame : (v : Voice) → loadedFrom 14 0 bytes v ≡ written (frameWrites value) v
-  unfolding frameWrites
-  loaded-frame v = loaded-from 14 0 (omega arith) v
+-- bytes that hold a frame's registers are loaded as its writes
+pub loaded-frame : (value bytes : List ℕ) → Registers value bytes → (v : Voice) → loaded bytes v ≡ appliedInOrder (frameWrites value) v
+unfolding frameWrites
+loaded-frame value bytes r v =
+    ap (λ (ws : List RegisterWrite). appliedInOrder ws v) (registers-same (λ register. getD bytes register 0) (hexByte value) 14 0 (λ k h. r k (omega arith)))

@@ -5,10 +5,8 @@ ghost use lib.ListN.{length};
 ghost use Rattle.dump_lines.specs.OneLine.{isFrame};
 ghost use Rattle.text_lines.specs.Bytes.{bytes};
 ghost use Rattle.text_lines.specs.Lines.{valueAt};
-ghost use Rattle.calls_words.specs.Blocks.{blockRefused};
 ghost use Rattle.dump_frames.specs.Frame.{Registers, frameBuffer, framePlayed};
 use answers::Blocked;
-use answers::Played;
 use chip::Chip;
 
 // The frame whose line stands at a place of the text: its registers, then as many words as the buffer has room for.
@@ -25,15 +23,15 @@ fn play_value(chip: Chip, value: &[u8], out: &mut [u16]) -> Blocked
     ensures buffer { λ r. ⌜ now (out .exit) ≡ frameBuffer (now (value .entry)) (now (out .entry)) chip ⌝ }
 {
     if !chip::in_range(chip) {
-        return refused(chip, refusals::OUT_OF_RANGE);
+        return calls_words::refused(chip, refusals::OUT_OF_RANGE);
     }
     if !dump_lines::is_frame(value) {
-        return refused(chip, refusals::LINE_NOT_OF_FORM);
+        return calls_words::refused(chip, refusals::LINE_NOT_OF_FORM);
     }
     let loaded = calls_registers::load_registers(chip, registers_of(value));
     let played = calls_words::block(loaded.chip, out);
     if played.answer.no != refusals::ACCEPTED {
-        return refused(chip, played.answer.no);
+        return calls_words::refused(chip, played.answer.no);
     }
     played
 }
@@ -50,15 +48,4 @@ fn registers_of(value: &[u8]) -> [u8; 16]
         i += 1;
     }
     registers
-}
-
-fn refused(chip: Chip, number: u8) -> Blocked
-    ensures { λ r. ⌜ r ≡ blockRefused number chip ⌝ }
-{
-    let answer = Played {
-        no: number,
-        words: 0,
-        ticks: 0,
-    };
-    Blocked { chip, answer }
 }

@@ -1,16 +1,10 @@
--- What the dump player prints. 01, "The dump player". Assumes nothing.
-use Prim.Native.Nat.{ℕ, _*_}
-use mathlib.Core.Bool.{cond}
+-- The lines around the words. 01, "The dump player". Assumes nothing.
+use Prim.Native.Nat.{ℕ}
 use mathlib.Core.List.{List, _++_}
-use lib.Dec.{eqb}
 use lib.ListN.{replicate}
-use Rattle.refusals.specs.Numbers.{accepted}
 use Rattle.text_lines.specs.Bytes.{bytes}
-use Rattle.dump.specs.Checked.{verdictOf}
-use Rattle.dump_frames.specs.Whole.{wordsIn}
 use Rattle.text_put.specs.Text.{laid, numberText, placeAfter}
-use Rattle.dump_output.specs.Words.{linesOf}
-use Rattle.dump_output.specs.declared.said.Text.{Text}
+use Rattle.dump_output.specs.declared.Text.{Text}
 
 -- A refusal prints only `refused=R line=L`.
 unfoldable pub refusalText : ℕ → ℕ → List ℕ
@@ -19,13 +13,6 @@ refusalText number line = bytes "refused=" ++ numberText number 32 ++ bytes "lin
 -- The output's `words=` is the total over all frames.
 unfoldable pub totalText : ℕ → List ℕ
 totalText words = bytes "words=" ++ numberText words 10
-
--- The whole output: a refusal, or the total and the words of each frame.
-unfoldable pub printed : List ℕ → List ℕ
-printed text =
-    let v = verdictOf text in
-    cond (eqb (v .no) accepted) (totalText (v .words * v .frames) ++ linesOf (wordsIn text (v .frames)))
-    (refusalText (v .no) (v .line))
 
 -- a text in 32 bytes, the rest of them 0
 unfoldable pub textOf : List ℕ → Text

@@ -19,6 +19,7 @@ use Rattle.levels.specs.Levels.{levelUsed, gatedLevel, loudnessOf}
 use Rattle.channels.specs.Channels.{channelAt, putChannel, setMute, setDrum}
 use Rattle.mixer.specs.Mix.{mixed}
 use Rattle.registers.specs.Registers.{pairAt, tonePeriodSet, noisePeriodSet, gatesSet, envelopePeriodSet, shapeSet, voiceSet, masked, applyRegister}
+use Rattle.registers.specs.Writes.{appliedInOrder, registersFrom}
 use Rattle.all_registers.specs.Reset.{voiceReset}
 use Rattle.queue.specs.Waiting.{writesFrom, waiting, due, queueIn}
 use Rattle.registers.specs.Writes.{appliedInOrder}
@@ -34,15 +35,15 @@ use Rattle.calls_registers.specs.Stored.{writeRegister, readRegister}
 use Rattle.calls_effects.specs.Effects.{setChannelMute, setDrumSampleOverride}
 use Rattle.calls_words.specs.Blocks.{blockNumber, blocked, blockBuffer, sampled}
 use Rattle.dump_frames.specs.Frame.{frameWrites, frameChip}
-use Rattle.dump_frames.specs.Whole.{placeOf as framePlace, chipBefore, frameWords, wordsIn}
+use Rattle.dump_played.specs.Whole.{framePlace, chipBefore, frameWords, wordsIn, printed}
 use Rattle.text_put.specs.Text.{spelt}
-use Rattle.dump_output.specs.Words.{linesOf}
-use Rattle.dump_output.specs.Printed.{totalText, printed}
+use Rattle.dump_words.specs.Words.{linesOf}
+use Rattle.dump_output.specs.Printed.{totalText}
 use Rattle.laws_bench_rules.specs.Setups.{ticks, shape8, drumAlone, resetAfter31}
 use Rattle.laws_bench_rules.specs.Table.{Table}
 
 pub table : Table
-unfolding ticks shape8 drumAlone resetAfter31 needless digits decimalOf hexValue allHex hexByte span lineAt startsWith valueAt lineEntryAt masterLineNo rateLineNo wordsLineNo framesLineNo isFrame frameAt framesFrom sized verdictOf shapeEntry envelopeEntry toneSet toneTick registerStep outputBy noiseTick nextPosition envelopeTick rowPlace envelopeLevel tick edgesOf toneAt putTone tonesSet powerOnEdges generatorsReset gatesFrom gateOf drumOut heard sounded levelUsed gatedLevel loudnessOf channelAt putChannel setMute setDrum mixed pairAt tonePeriodSet noisePeriodSet gatesSet envelopePeriodSet shapeSet voiceSet masked applyRegister voiceReset writesFrom waiting due appliedInOrder registerWrites drain queueIn ticking ticked drained ranOf mixedOf wordOf afterWords ticksOf wordsOf clocksNo clocksIn bytesIn toneIn allOrNone noiseIn envelopeIn generatorsIn gatesIn voiceIn coreIn chipIn madeOf fresh withClocks resetOf resetCall writeRegister readRegister setChannelMute setDrumSampleOverride blockNumber blocked blockBuffer sampled frameWrites frameChip framePlace chipBefore frameWords wordsIn spelt linesOf totalText printed mul div ofInt
+unfolding ticks shape8 drumAlone resetAfter31 needless digits decimalOf hexValue allHex hexByte span lineAt startsWith valueAt lineEntryAt masterLineNo rateLineNo wordsLineNo framesLineNo isFrame frameAt framesFrom sized verdictOf shapeEntry envelopeEntry toneSet toneTick registerStep outputBy noiseTick nextPosition envelopeTick rowPlace envelopeLevel tick edgesOf toneAt putTone tonesSet powerOnEdges generatorsReset gatesFrom gateOf drumOut heard sounded levelUsed gatedLevel loudnessOf channelAt putChannel setMute setDrum mixed pairAt tonePeriodSet noisePeriodSet gatesSet envelopePeriodSet shapeSet voiceSet masked applyRegister appliedInOrder registersFrom voiceReset writesFrom waiting due appliedInOrder registerWrites drain queueIn ticking ticked drained ranOf mixedOf wordOf afterWords ticksOf wordsOf clocksNo clocksIn bytesIn toneIn allOrNone noiseIn envelopeIn generatorsIn gatesIn voiceIn coreIn chipIn madeOf fresh withClocks resetOf resetCall writeRegister readRegister setChannelMute setDrumSampleOverride blockNumber blocked blockBuffer sampled frameWrites frameChip framePlace chipBefore frameWords wordsIn spelt linesOf totalText printed mul div ofInt
 table =
     record {
       seed = refl;

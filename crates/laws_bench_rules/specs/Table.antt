@@ -12,7 +12,7 @@ use Rattle.calls_making.specs.Making.{fresh, withClocks}
 use Rattle.calls_registers.specs.Stored.{readRegister}
 use Rattle.calls_words.specs.Blocks.{blocked, sampled}
 use Rattle.text_lines.specs.Bytes.{bytes}
-use Rattle.dump_output.specs.Printed.{printed}
+use Rattle.dump_played.specs.Whole.{printed}
 use Rattle.laws_bench_rules.specs.Setups.{noiseAfter, envelopeAfter, ticksAfter, shape8, drumAlone, resetAfter31}
 
 pub record Table : Type 0 where

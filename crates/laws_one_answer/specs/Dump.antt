@@ -12,7 +12,7 @@ use Rattle.dump_lines.proofs.is_frame as is-frame
 use Rattle.dump_frames.proofs.play_frame as play-frame
 use Rattle.text_put.proofs.put_bytes as put-bytes
 use Rattle.text_put.proofs.put_number as put-number
-use Rattle.dump_output.proofs.put_words as put-words
+use Rattle.dump_words.proofs.put_words as put-words
 use Rattle.dump_output.proofs.refusal
 use Rattle.dump_output.proofs.total
 use Rattle.c_interface.proofs.ym2149_play as ym2149-play

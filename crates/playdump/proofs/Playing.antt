@@ -17,15 +17,15 @@ use Rattle.answers.specs.declared.Answered.{Answered}
 use Rattle.answers.specs.declared.Blocked.{Blocked}
 use Rattle.calls_making.specs.Making.{withClocks}
 use Rattle.dump_frames.specs.Frame.{framePlayed, frameBuffer}
-use Rattle.dump_frames.specs.Whole.{placeOf, valueOf, chipBefore, frameWords}
-use Rattle.dump_frames.proofs.Whole.{leaves, fills}
+use Rattle.dump_played.specs.Whole.{framePlace, valueOf, chipBefore, frameWords}
+use Rattle.dump_played.proofs.Whole.{leaves, fills}
 
 -- where frame f stands, and the chip before it
 pub record Playing (t : List ℕ) (v : Verdict) (words : List ℕ) (chip : Chip) (at f : ℕ) : Type 0 where
   pub checks : v ≡ verdictOf t
   pub accepts : v .no ≡ 0
   pub long : length words ≡ v .words
-  pub place : at ≡ placeOf t f
+  pub place : at ≡ framePlace t f
   pub before : chip ≡ chipBefore t f
 
 module _ {t : List ℕ} {v : Verdict} {words : List ℕ} {chip : Chip} {at f : ℕ} (m : Playing t v words chip at f) where
@@ -47,13 +47,13 @@ module _ {t : List ℕ} {v : Verdict} {words : List ℕ} {chip : Chip} {at f : �
 
   pub playing-on : {after : List ℕ} → length after ≡ length words → {c : Chip} → c ≡ chipBefore t (f + 1) → {l : Line} → l ≡ lineAt t at
       → Playing t v after c (l .next) (f + 1)
-  unfolding placeOf
+  unfolding framePlace
   playing-on k e p =
       record { checks = m .checks; accepts = m .accepts; long = k ∙ m .long; place = rw (add-one, p, m .place); before = e }
 
 pub playing-start : {t : List ℕ} {v : Verdict} {words : List ℕ} → v ≡ verdictOf t → v .no ≡ 0 → length words ≡ v .words
     → {a : Answered} → a ≡ withClocks (v .master) (v .rate) → Playing t v words (a .chip) (v .body) 0
-unfolding placeOf chipBefore
+unfolding framePlace chipBefore
 playing-start q z l p = record { checks = q; accepts = z; long = l; place = rw q; before = rw (p, q) }
 
 -- the sizes of an accepted dump

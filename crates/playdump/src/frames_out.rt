@@ -5,7 +5,7 @@ ghost use mathlib.Core.Path.{_≡_};
 ghost use Prim.Native.Nat.{_+_, _<_, _≤_};
 ghost use lib.ListN.{length};
 ghost use Rattle.dump.specs.Checked.{verdictOf};
-ghost use Rattle.dump_frames.specs.Whole.{chipBefore, frameWords, placeOf};
+ghost use Rattle.dump_played.specs.Whole.{chipBefore, frameWords, framePlace};
 
 pub fn play_all(text: &[u8], verdict: Verdict)
     requires { ⌜ verdict ≡ verdictOf (now text) ⌝ }
@@ -49,7 +49,7 @@ fn play_frame(
     requires { ⌜ verdict ≡ verdictOf (now text) ⌝ }
     requires { ⌜ verdict .no ≡ 0 ⌝ }
     requires { ⌜ f < verdict .frames ⌝ }
-    requires { ⌜ at ≡ placeOf (now text) f ⌝ }
+    requires { ⌜ at ≡ framePlace (now text) f ⌝ }
     requires { ⌜ chip ≡ chipBefore (now text) f ⌝ }
     requires { ⌜ length (now words) ≡ verdict .words ⌝ }
     ensures left { λ r. ⌜ r ≡ chipBefore (now (text .entry)) (f + 1) ⌝ }
@@ -61,12 +61,12 @@ fn play_frame(
 
 // The lines wait until there is no room for a frame more.
 fn print(lines: &mut [u8], used: usize, words: &[u16]) -> usize {
-    let next = dump_output::put_words(lines, used, words);
+    let next = dump_words::put_words(lines, used, words);
     if next > used {
         return next;
     }
     flush(lines, used);
-    dump_output::put_words(lines, 0, words)
+    dump_words::put_words(lines, 0, words)
 }
 
 pub fn flush(lines: &[u8], used: usize) {

@@ -1,9 +1,9 @@
--- `said::total` meets its contract: text after text (`Saying`). Assumes nothing.
+-- `dump_output::total` meets its contract: text after text (`Saying`). Assumes nothing.
 use native.Mathlib.Omega.{arith}
 use borrow.Author.Needs.{needs}
 use Rattle.dump_output.proofs.Saying.{total-said}
-use Rattle.dump_output.proofs.said.total.Statement.{statement}
-use Rattle.dump_output.proofs.said.total.Tie as tie
+use Rattle.dump_output.proofs.total.Statement.{statement}
+use Rattle.dump_output.proofs.total.Tie as tie
 
 slice-aggregate-out : tie.Need-slice-aggregate-out
 slice-aggregate-out c = search needs

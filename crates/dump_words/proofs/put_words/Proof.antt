@@ -1,11 +1,11 @@
--- `words::put_words` meets its contract: the first i words have their lines (`Lining`). Assumes nothing.
+-- `dump_words::put_words` meets its contract: the first i words have their lines (`Lining`). Assumes nothing.
 use Prim.Native.Nat.{_-_}
 use native.Mathlib.Omega.{arith}
 use borrow.Author.Needs.{needs}
 use lib.ListN.{length}
-use Rattle.dump_output.proofs.Lining.{Lining, lined-outside, lined-tight, lining-start, lining-on, lining-long, lining-ends}
-use Rattle.dump_output.proofs.words.put_words.Statement.{statement}
-use Rattle.dump_output.proofs.words.put_words.Tie as tie
+use Rattle.dump_words.proofs.Lining.{Lining, lined-outside, lined-tight, lining-start, lining-on, lining-long, lining-ends}
+use Rattle.dump_words.proofs.put_words.Statement.{statement}
+use Rattle.dump_words.proofs.put_words.Tie as tie
 
 abbrev Inv-loop : tie.InvT-loop
 Inv-loop out₀ at words place₀ i₀ out place i = Lining out₀ at words out place i

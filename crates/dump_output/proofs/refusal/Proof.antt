@@ -1,9 +1,9 @@
--- `said::refusal` meets its contract: text after text (`Saying`). Assumes nothing.
+-- `dump_output::refusal` meets its contract: text after text (`Saying`). Assumes nothing.
 use native.Mathlib.Omega.{arith}
 use borrow.Author.Needs.{needs}
 use Rattle.dump_output.proofs.Saying.{refusal-said}
-use Rattle.dump_output.proofs.said.refusal.Statement.{statement}
-use Rattle.dump_output.proofs.said.refusal.Tie as tie
+use Rattle.dump_output.proofs.refusal.Statement.{statement}
+use Rattle.dump_output.proofs.refusal.Tie as tie
 
 slice-aggregate-out : tie.Need-slice-aggregate-out
 slice-aggregate-out c = search needs

@@ -1,7 +1,7 @@
 -- A checked dump plays: no frame of it is refused, and each gives its words. Assumes nothing.
 use mathlib.Core.Bool.{true}
 use mathlib.Core.Path.{_≡_, refl, sym, ap, _∙_}
-use mathlib.Core.List.{List, [], _∷_}
+use mathlib.Core.List.{List}
 use Prim.Native.Nat.{ℕ, zero, suc, _+_, _*_, _^_, _≤_, _<_}
 use native.Mathlib.Nat.{mul-le-mul}
 use native.Mathlib.Omega.{arith}
@@ -14,9 +14,7 @@ use Rattle.text_lines.specs.Lines.{lineAt, valueAt}
 use Rattle.dump_lines.specs.OneLine.{frameAt, isFrame}
 use Rattle.dump.specs.Checked.{verdictOf}
 use Rattle.dump.proofs.Accepted.{placeFrom, Laid, accepted-laid}
-use Rattle.registers.specs.declared.Voice.{Voice}
-use Rattle.registers.specs.Range.{VoiceInRange}
-use Rattle.registers.proofs.InRange.{apply-in}
+use Rattle.registers.proofs.InRange.{applied-in}
 use Rattle.chip.specs.declared.Chip.{Chip}
 use Rattle.clocking_word.specs.Word.{wordOf}
 use Rattle.clocking_block.specs.Block.{afterOne, afterWords, wordsOf}
@@ -31,17 +29,13 @@ use Rattle.calls_making.specs.Making.{withClocks, madeOf, fresh}
 use Rattle.calls_words.specs.Blocks.{blockNumber, blockNo, blockPlayed, blocked, blockBuffer}
 use Rattle.laws_in_range.proofs.Parts.{voice-kept}
 use Rattle.laws_in_range.proofs.Kept.{with-clocks-kept, words-kept}
-use Rattle.dump_frames.specs.Frame.{RegisterWrite, written, frameWrites, frameChip, framePlayed, frameBuffer}
-use Rattle.dump_frames.specs.Whole.{placeOf, valueOf, chipBefore, frameWords}
+use Rattle.dump_frames.specs.Frame.{frameWrites, frameChip, framePlayed, frameBuffer}
+use Rattle.dump_played.specs.Whole.{framePlace, valueOf, chipBefore, frameWords}
 
 -- a frame's writes keep the chip in range, its clocks and its start
-written-in : (ws : List RegisterWrite) {v : Voice} → VoiceInRange v → VoiceInRange (written ws v)
-written-in [] h = h
-written-in (w ∷ ws) h = written-in ws (apply-in (w .register) (w .value) h)
-
 frame-kept : (value : List ℕ) {c : Chip} → InRange c → InRange (frameChip value c)
 unfolding frameChip
-frame-kept value h = voice-kept h (written-in (frameWrites value) (h .voice))
+frame-kept value h = voice-kept h (applied-in (frameWrites value) (h .voice))
 
 -- where the next word starts, and that the clocks stay
 record On (c d : Chip) (n : ℕ) : Type 0 where
@@ -68,8 +62,8 @@ unfolding afterWords
 words-on zero c = record { cycles = refl; start = omega arith }
 words-on (suc n) c = let z : 1 + n ≡ suc n = omega arith in rw z at (joined 1 n (one-on c) (words-on n (afterOne c)))
 
-place-is : (t : List ℕ) (f : ℕ) → placeOf t f ≡ placeFrom t (verdictOf t .body) f
-unfolding placeOf
+place-is : (t : List ℕ) (f : ℕ) → framePlace t f ≡ placeFrom t (verdictOf t .body) f
+unfolding framePlace
 place-is t zero = refl
 place-is t (suc f) = ap (λ (p : ℕ). lineAt t p .next) (place-is t f)
 

@@ -1,6 +1,6 @@
-// The words' lines, put into a lent buffer at a place.
+// The words' lines, put into a lent buffer at a place. 01, "The dump player".
 ghost use mathlib.Core.Path.{_≡_};
-ghost use Rattle.dump_output.specs.Words.{wordsLaid, wordsPlace};
+ghost use Rattle.dump_words.specs.Words.{wordsLaid, wordsPlace};
 
 // A line for each word. A word has 5 digits at most, so six bytes of room for each are asked for; with less, nothing is written.
 pub fn put_words(out: &mut [u8], at: usize, words: &[u16]) -> usize

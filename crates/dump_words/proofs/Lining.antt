@@ -8,7 +8,7 @@ use borrow.Author.Tests.{le-leb, lt-leb}
 use lib.ListN.{length, take, drop, getD, length-append}
 use lib.Seq.{take-suc, take-all}
 use Rattle.text_put.specs.Text.{numberText, overlaid, laid, placeAfter}
-use Rattle.dump_output.specs.Words.{linesOf, wordsLaid, wordsPlace}
+use Rattle.dump_words.specs.Words.{linesOf, wordsLaid, wordsPlace}
 use Rattle.text_put.proofs.Laying.{laid-over, place-over, over-none, over-over, over-long}
 use Rattle.text_put.proofs.Spelling.{spelt-few}
 
