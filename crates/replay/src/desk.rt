@@ -30,14 +30,21 @@ pub fn called(chip: Chip, lent: bool, call: Call, words: &mut [u16]) -> After {
 
 fn answer(chip: Chip, lent: bool, call: Call) -> After {
     match call {
-        Call::New(master, rate) => changed(calls::with_clocks(master, rate)),
-        Call::Default => kept(calls::new(), said::told(0, Rest::Nothing)),
-        Call::Change(x) => changed(change(chip, lent, x)),
         Call::Look(x) => kept(chip, look(chip, lent, x)),
-        Call::Word => sampled(word(chip, lent)),
         Call::Waiting(place) => kept(chip, said::waiting(chip.queue, place)),
-        Call::Set(setting) => kept(with_setting(chip, setting), said::told(0, Rest::Nothing)),
-        _ => kept(chip, said::told(0, Rest::Nothing)),
+        Call::Word => sampled(word(chip, lent)),
+        _ => changed(alone(chip, lent, call)),
+    }
+}
+
+// What answers its number alone.
+fn alone(chip: Chip, lent: bool, call: Call) -> Answered {
+    match call {
+        Call::Change(x) => change(chip, lent, x),
+        Call::New(master, rate) => calls::with_clocks(master, rate),
+        Call::Default => answers::accepted(calls::new()),
+        Call::Set(setting) => answers::accepted(with_setting(chip, setting)),
+        _ => answers::accepted(chip),
     }
 }
 
