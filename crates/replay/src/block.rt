@@ -1,38 +1,23 @@
-// A block of words in a lent buffer.
-use answers::Blocked;
-use answers::Played;
-use chip::Chip;
+// The words of a block, as they are printed.
 use script_print::put_form;
 
 // A longer block prints its first and last word and a check of all.
-const SHOWN: usize = 32;
+const SHOWN: u64 = 32;
 
-pub fn block(chip: Chip, lent: bool, words: &mut [u16]) -> Blocked {
-    if lent {
-        return cabinet_host::block(chip, words);
+// How many there are, how many ticks they took, and the first of the buffer.
+pub fn put_words(out: &mut [u8], at: usize, count: u64, ticks: u64, words: &[u16]) -> usize {
+    let counted = put_form(out, at, b" # #", &[count, ticks]);
+    if count == 0 {
+        return counted;
     }
-    calls::block(chip, words)
-}
-
-pub fn put_played(out: &mut [u8], at: usize, answer: Played, words: &[u16]) -> usize {
-    let ticks = put_form(
-        out,
-        at,
-        b"# # #",
-        &[answer.no as u64, answer.words as u64, answer.ticks],
-    );
-    let shown = put_words(out, ticks, answer.no, words);
-    put_form(out, shown, b"\n", &[0])
-}
-
-fn put_words(out: &mut [u8], at: usize, no: u8, words: &[u16]) -> usize {
-    if no > 0 {
-        return at;
+    if count > words.len() as u64 {
+        return counted;
     }
-    if words.len() <= SHOWN {
-        return put_all(out, at, words);
+    let end = count as usize;
+    if count <= SHOWN {
+        return put_all(out, counted, &words[0..end]);
     }
-    put_ends(out, at, words)
+    put_ends(out, counted, &words[0..end])
 }
 
 fn put_all(out: &mut [u8], at: usize, words: &[u16]) -> usize {

@@ -1,10 +1,12 @@
 // What a call answers, as it is printed: its number, and what stands after it.
+use crate::block;
 use answers::Byte;
 use answers::Bytes;
 use answers::Count;
 use answers::Cycle;
 use answers::Flag;
 use answers::Outputs;
+use answers::Played;
 use answers::Sample;
 use queue::Queue;
 use script_print::put_form;
@@ -21,36 +23,37 @@ pub struct Said {
 pub enum Rest {
     Nothing,
     One(u64),
-    Two(u64, u64),
     Three(u64, u64, u64),
     // the bits of three f32
     Floats(u64, u64, u64),
     Bytes,
+    // words and ticks; the words stand in a buffer
+    Words(u64, u64),
     None,
 }
 
-pub fn put_said(out: &mut [u8], at: usize, said: Said) -> usize {
-    let no = put_form(out, at, b"#", &[said.no as u64]);
+pub fn put_said(out: &mut [u8], at: usize, said: Said, words: &[u16]) -> usize {
     let rest = said.rest;
     let bytes = said.bytes;
-    let after = put_rest(out, no, rest, &bytes);
-    put_form(out, after, b"\n", &[0])
+    let no = put_form(out, at, b"#", &[said.no as u64]);
+    let after = put_rest(out, no, rest, &bytes, words);
+    put_form(out, after, b"\n", &[])
 }
 
-fn put_rest(out: &mut [u8], at: usize, rest: Rest, bytes: &[u8; 16]) -> usize {
+fn put_rest(out: &mut [u8], at: usize, rest: Rest, bytes: &[u8; 16], words: &[u16]) -> usize {
     match rest {
         Rest::Nothing => at,
         Rest::One(x) => put_form(out, at, b" #", &[x]),
-        Rest::Two(x, y) => put_form(out, at, b" # #", &[x, y]),
         Rest::Three(x, y, z) => put_form(out, at, b" # # #", &[x, y, z]),
         Rest::Floats(x, y, z) => put_form(out, at, b" % % %", &[x, y, z]),
         Rest::Bytes => put_after_space(out, at, bytes),
-        Rest::None => put_form(out, at, b" none", &[0]),
+        Rest::Words(count, ticks) => block::put_words(out, at, count, ticks, words),
+        Rest::None => put_form(out, at, b" none", &[]),
     }
 }
 
 fn put_after_space(out: &mut [u8], at: usize, bytes: &[u8; 16]) -> usize {
-    let space = put_form(out, at, b" ", &[0]);
+    let space = put_form(out, at, b" ", &[]);
     put_hex_bytes(out, space, bytes)
 }
 
@@ -94,10 +97,14 @@ pub fn outputs(answer: Outputs) -> Said {
     )
 }
 
-// No words and no ticks where it is refused.
+pub fn played(answer: Played) -> Said {
+    told(answer.no, Rest::Words(answer.words as u64, answer.ticks))
+}
+
+// A refused word prints as a block of none.
 pub fn sample(answer: Sample) -> Said {
     if answer.no > 0 {
-        return told(answer.no, Rest::Two(0, 0));
+        return told(answer.no, Rest::Words(0, 0));
     }
     told(0, Rest::Three(1, answer.ticks, answer.word as u64))
 }

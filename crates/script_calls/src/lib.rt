@@ -10,35 +10,45 @@ pub use settings::Setting;
 pub enum Call {
     New(u32, u32),
     Default,
-    Reset,
-    Write(u8, u8),
-    Read(u8),
-    // sixteen bytes as two numbers, the first byte the highest
-    Load(u64, u64),
-    Dump,
-    Port(u8, u8),
-    PortNow(u8, u8),
-    ReadPort(u8),
-    Cycle(u64),
-    GetCycle,
-    Sync(u64),
-    Flush,
-    Pending,
-    Waiting(usize),
-    Irq(bool),
-    InsideIrq(bool),
-    Trigger,
-    Mute(usize, bool),
-    Muted(usize),
-    DrumOff(usize),
-    Drum(usize, f32),
-    Outputs,
+    Change(Change),
+    Look(Look),
     Word,
     Block(usize),
+    Waiting(usize),
     Lent(bool),
     Set(Setting),
     // passed over
     Comment,
     // a line of another form
     Bad,
+}
+
+// A call that answers its number alone.
+pub enum Change {
+    Reset,
+    Write(u8, u8),
+    // sixteen bytes as two numbers, the first byte the highest
+    Load(u64, u64),
+    Port(u8, u8),
+    PortNow(u8, u8),
+    Cycle(u64),
+    Sync(u64),
+    Flush,
+    Irq(bool),
+    InsideIrq(bool),
+    Trigger,
+    Mute(usize, bool),
+    DrumOff(usize),
+    Drum(usize, f32),
+}
+
+// A call that only reads.
+pub enum Look {
+    Register(u8),
+    Registers,
+    Port(u8),
+    Cycle,
+    Pending,
+    Muted(usize),
+    Outputs,
 }

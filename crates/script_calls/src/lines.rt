@@ -1,5 +1,7 @@
 // Which call a line is, by the number of its words and the first of them.
 use crate::Call;
+use crate::Change;
+use crate::Look;
 use crate::narrow;
 use crate::settings::Setting;
 use crate::settings::setting_of;
@@ -56,13 +58,13 @@ fn alone(name: &[u8]) -> Call {
         name,
     ) {
         0 => Call::Default,
-        1 => Call::Reset,
-        2 => Call::Dump,
-        3 => Call::GetCycle,
-        4 => Call::Flush,
-        5 => Call::Pending,
-        6 => Call::Trigger,
-        7 => Call::Outputs,
+        1 => Call::Change(Change::Reset),
+        2 => Call::Look(Look::Registers),
+        3 => Call::Look(Look::Cycle),
+        4 => Call::Change(Change::Flush),
+        5 => Call::Look(Look::Pending),
+        6 => Call::Change(Change::Trigger),
+        7 => Call::Look(Look::Outputs),
         8 => Call::Word,
         _ => Call::Bad,
     }
@@ -87,7 +89,7 @@ fn load(x: &[u8]) -> Call {
     let Number::Is(last) = hex(&x[16..32], 16) else {
         return Call::Bad;
     };
-    Call::Load(first, last)
+    Call::Change(Change::Load(first, last))
 }
 
 fn block(x: &[u8]) -> Call {
@@ -106,8 +108,8 @@ fn with_byte(name: &[u8], x: &[u8]) -> Call {
         return Call::Bad;
     };
     match place {
-        0 => Call::Read(narrow::byte(n)),
-        1 => Call::ReadPort(narrow::byte(n)),
+        0 => Call::Look(Look::Register(narrow::byte(n))),
+        1 => Call::Look(Look::Port(narrow::byte(n))),
         _ => Call::Waiting(n as usize),
     }
 }
@@ -121,8 +123,8 @@ fn with_flag(name: &[u8], x: &[u8]) -> Call {
         return Call::Bad;
     };
     match place {
-        0 => Call::Irq(n > 0),
-        1 => Call::InsideIrq(n > 0),
+        0 => Call::Change(Change::Irq(n > 0)),
+        1 => Call::Change(Change::InsideIrq(n > 0)),
         _ => Call::Lent(n > 0),
     }
 }
@@ -132,9 +134,9 @@ fn with_number(name: &[u8], x: &[u8]) -> Call {
         return Call::Bad;
     };
     match place_of(b"cycle sync muted", name) {
-        0 => Call::Cycle(n),
-        1 => Call::Sync(n),
-        2 => Call::Muted(n as usize),
+        0 => Call::Change(Change::Cycle(n)),
+        1 => Call::Change(Change::Sync(n)),
+        2 => Call::Look(Look::Muted(n as usize)),
         _ => Call::Bad,
     }
 }
@@ -166,7 +168,7 @@ fn mute(x: &[u8], y: &[u8]) -> Call {
     let Number::Is(muted) = decimal(y, FLAG) else {
         return Call::Bad;
     };
-    Call::Mute(channel as usize, muted > 0)
+    Call::Change(Change::Mute(channel as usize, muted > 0))
 }
 
 // `off`, or the eight hex digits of an f32.
@@ -175,12 +177,12 @@ fn drum(x: &[u8], y: &[u8]) -> Call {
         return Call::Bad;
     };
     if check::same(y, b"off") {
-        return Call::DrumOff(channel as usize);
+        return Call::Change(Change::DrumOff(channel as usize));
     }
     let Number::Is(bits) = hex(y, 8) else {
         return Call::Bad;
     };
-    Call::Drum(channel as usize, narrow::float(narrow::word(bits)))
+    Call::Change(Change::Drum(channel as usize, narrow::float(narrow::word(bits))))
 }
 
 fn set(x: &[u8], y: &[u8]) -> Call {
@@ -199,9 +201,9 @@ fn with_bytes(name: &[u8], x: &[u8], y: &[u8]) -> Call {
         return Call::Bad;
     };
     match place_of(b"write port port_now", name) {
-        0 => Call::Write(narrow::byte(first), narrow::byte(value)),
-        1 => Call::Port(narrow::byte(first), narrow::byte(value)),
-        2 => Call::PortNow(narrow::byte(first), narrow::byte(value)),
+        0 => Call::Change(Change::Write(narrow::byte(first), narrow::byte(value))),
+        1 => Call::Change(Change::Port(narrow::byte(first), narrow::byte(value))),
+        2 => Call::Change(Change::PortNow(narrow::byte(first), narrow::byte(value))),
         _ => Call::Bad,
     }
 }

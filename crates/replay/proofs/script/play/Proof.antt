@@ -9,11 +9,8 @@ Inv-loop input₀ out₀ words₀ now₀ turns₀ input out words now turns = Un
 abbrev μ-loop : tie.MeasureT-loop
 μ-loop input₀ out₀ words₀ now₀ turns₀ input out words now turns = turns
 
-new-requires : tie.Need-new-requires Inv-loop μ-loop
-new-requires c κs = search needs
-
-nothing-read-requires : tie.Need-nothing-read-requires Inv-loop μ-loop
-nothing-read-requires c κs = search needs
+begun-requires : tie.Need-begun-requires Inv-loop μ-loop
+begun-requires c κs = search needs
 
 loop-holds : tie.Need-loop-holds Inv-loop μ-loop
 loop-holds c = search needs
@@ -42,8 +39,7 @@ play-spec =
     (tie.spec
     Inv-loop
     μ-loop
-    new-requires
-    nothing-read-requires
+    begun-requires
     loop-holds
     turned-requires
     returns
