@@ -11,8 +11,8 @@ use Rattle.chip.specs.declared.Chip.{Chip}
 use Rattle.envelope.specs.Envelope.{restarted, restartPosition}
 use Rattle.generators.specs.Generators.{tonesReleased}
 use Rattle.drums.specs.Drums.{float}
-use Rattle.channels.specs.Channels.{isMuted, setDrum, setMute}
-use Rattle.channels.specs.declared.Channels.{Channels}
+use Rattle.three_channels.specs.Channels.{isMuted, setDrum, setMute}
+use Rattle.three_channels.specs.declared.Channels.{Channels}
 use Rattle.channel.specs.declared.Drum.{Drum}
 use Rattle.chip.specs.Range.{chipIn}
 use Rattle.refusals.specs.Numbers.{accepted, noSuchChannel, outOfRange}

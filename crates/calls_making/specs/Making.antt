@@ -7,7 +7,7 @@ use Rattle.answers.specs.declared.Answered.{Answered}
 use Rattle.chip.specs.declared.Chip.{Chip}
 use Rattle.chip_parts.specs.Parts.{atStart}
 use Rattle.chip.specs.declared.Clocks.{Clocks}
-use Rattle.channels.specs.Channels.{allQuiet, channelsReset}
+use Rattle.three_channels.specs.Channels.{allQuiet, channelsReset}
 use Rattle.clocks.specs.Clocks.{clocksNo}
 use Rattle.chip.specs.Clocks.{clocksOf}
 use Rattle.refusals.specs.Numbers.{accepted}

@@ -8,10 +8,10 @@ ghost use Rattle.chip.specs.Range.{clocksIn, bytesIn, toneIn, noiseIn, a
 use envelope::Envelope;
 use gates::Gates;
 use generators::Generators;
-use channels::Channels;
 use noise::Noise;
 use queue::Queue;
 use registers::Voice;
+use three_channels::Channels;
 use tone::Tone;
 
 // Accepted clocks and their quotients: the internal clock is a tick's, and `cycles` are the CPU's in a word.

@@ -1,7 +1,7 @@
 -- A chip with one part changed; the pages above write no record of it out again. 01, "Power-on and reset", "Registers and ports" and
 -- "One tick, one word". Assumes nothing.
 use Prim.Native.Nat.{ℕ}
-use Rattle.channels.specs.declared.Channels.{Channels}
+use Rattle.three_channels.specs.declared.Channels.{Channels}
 use Rattle.registers.specs.declared.Voice.{Voice}
 use Rattle.queue.specs.declared.Queue.{Queue}
 use Rattle.queue.specs.Waiting.{empty}

@@ -4,9 +4,9 @@ ghost use Rattle.chip_parts.specs.Parts.{atStart, withChannels, withVoic
 use chip::Chip;
 use chip::Clocks;
 use chip::Core;
-use channels::Channels;
 use queue::Queue;
 use registers::Voice;
+use three_channels::Channels;
 
 // Selection, accumulator, stamp and the next word's start at 0, and the queue empty: so a chip is made, and so reset leaves it.
 pub fn at_start(clocks: Clocks, voice: Voice, channels: Channels) -> Chip

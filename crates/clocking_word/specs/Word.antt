@@ -5,7 +5,7 @@ use Prim.Native.Nat.{ℕ, _+_}
 use Rattle.generators.specs.declared.Generators.{Generators}
 use Rattle.tone.specs.Tone.{isHalved}
 use Rattle.envelope.specs.Envelope.{envelopeLevel}
-use Rattle.channels.specs.declared.Channels.{Channels}
+use Rattle.three_channels.specs.declared.Channels.{Channels}
 use Rattle.mixer.specs.declared.Mixed.{Mixed}
 use Rattle.mixer.specs.Mix.{mixed}
 use Rattle.registers.specs.declared.Voice.{Voice}

@@ -8,9 +8,9 @@ ghost use Rattle.queue.specs.Waiting.{ring, QueueInRange};
 ghost use Rattle.chip.specs.Range.{CoreInRange};
 ghost use Rattle.clocking_word.specs.Word.{mixedOf, wordOf, smallOf};
 use chip::Core;
-use channels::Channels;
 use mixer::Mixed;
 use registers::Voice;
+use three_channels::Channels;
 
 // A word, and the small state after it; the ring's slots are as they were.
 pub struct Worded {

@@ -16,7 +16,7 @@ use Rattle.gates.specs.Gates.{gatesFrom, gateOf}
 use Rattle.drums.specs.Drums.{drumOut}
 use Rattle.channel.specs.Channel.{heard, sounded}
 use Rattle.levels.specs.Levels.{levelUsed, gatedLevel, loudnessOf}
-use Rattle.channels.specs.Channels.{channelAt, putChannel, setMute, setDrum}
+use Rattle.three_channels.specs.Channels.{channelAt, putChannel, setMute, setDrum}
 use Rattle.mixer.specs.Mix.{mixed}
 use Rattle.registers.specs.Registers.{pairAt, tonePeriodSet, noisePeriodSet, gatesSet, envelopePeriodSet, shapeSet, voiceSet, masked, applyRegister}
 use Rattle.registers.specs.Writes.{appliedInOrder, registersFrom}

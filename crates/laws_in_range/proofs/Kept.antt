@@ -9,7 +9,7 @@ use Rattle.laws.proofs.Tests.{by-cond, by-eq}
 use Rattle.envelope.proofs.Circling.{restarted-in}
 use Rattle.generators.proofs.InRange.{tones-released-in}
 use Rattle.channel.specs.declared.Drum.{Drum}
-use Rattle.channels.specs.Channels.{setMute, setDrum}
+use Rattle.three_channels.specs.Channels.{setMute, setDrum}
 use Rattle.registers.specs.declared.Voice.{Voice}
 use Rattle.registers.specs.Range.{VoiceInRange}
 use Rattle.registers.proofs.InRange.{apply-in, loaded-in}

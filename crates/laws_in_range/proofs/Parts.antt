@@ -2,7 +2,7 @@
 use mathlib.Core.Bool.{Bool, cond}
 use Prim.Native.Nat.{ℕ, _≤_}
 use Rattle.laws.proofs.Tests.{by-cond}
-use Rattle.channels.specs.declared.Channels.{Channels}
+use Rattle.three_channels.specs.declared.Channels.{Channels}
 use Rattle.registers.specs.declared.Voice.{Voice}
 use Rattle.registers.specs.Range.{VoiceInRange}
 use Rattle.queue.specs.declared.Queue.{Queue}

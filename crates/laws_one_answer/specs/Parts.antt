@@ -47,11 +47,11 @@ use Rattle.channel.proofs.Channel.with_drum as channel-with-drum
 use Rattle.channel.proofs.Channel.reset as channel-reset
 use Rattle.channel.proofs.Channel.sound as channel-sound
 use Rattle.channel.proofs.Channel.compute_output as channel-compute-output
-use Rattle.channels.proofs.Channels.new as channels-new
-use Rattle.channels.proofs.Channels.reset as channels-reset
-use Rattle.channels.proofs.Channels.set_mute as channels-set-mute
-use Rattle.channels.proofs.Channels.is_muted as channels-is-muted
-use Rattle.channels.proofs.Channels.set_drum_override as channels-set-drum-override
+use Rattle.three_channels.proofs.Channels.new as channels-new
+use Rattle.three_channels.proofs.Channels.reset as channels-reset
+use Rattle.three_channels.proofs.Channels.set_mute as channels-set-mute
+use Rattle.three_channels.proofs.Channels.is_muted as channels-is-muted
+use Rattle.three_channels.proofs.Channels.set_drum_override as channels-set-drum-override
 use Rattle.mixer.proofs.mix as channels-mix
 use Rattle.all_registers.proofs.new as voice-new
 use Rattle.all_registers.proofs.reset as voice-reset

@@ -9,7 +9,7 @@ use lib.ListN.{length}
 use Rattle.refusals.specs.Numbers.{accepted, outOfRange}
 use Rattle.laws.proofs.Tests.{by-cond, by-eq, by-le}
 use Rattle.noise.specs.Course.{Agrees}
-use Rattle.channels.specs.declared.Channels.{Channels}
+use Rattle.three_channels.specs.declared.Channels.{Channels}
 use Rattle.registers.specs.declared.Voice.{Voice}
 use Rattle.registers.specs.Registers.{applyRegister}
 use Rattle.queue.specs.declared.Write.{Write}

@@ -6,7 +6,7 @@ use native.Mathlib.Omega.{arith}
 use lib.ListN.{length}
 use Rattle.refusals.specs.Numbers.{accepted, outOfRange}
 use Rattle.laws.proofs.Tests.{by-cond, by-eq, by-le, by-lt}
-use Rattle.channels.specs.declared.Channels.{Channels}
+use Rattle.three_channels.specs.declared.Channels.{Channels}
 use Rattle.queue.specs.declared.Pushed.{Pushed}
 use Rattle.queue.specs.Waiting.{push}
 use Rattle.chip.specs.declared.Chip.{Chip}

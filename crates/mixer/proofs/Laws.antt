@@ -4,7 +4,7 @@ use mathlib.Core.List.{List}
 use Prim.Native.Nat.{ℕ, _+_, _/_, _≤_, _<_}
 use native.Mathlib.Omega.{arith}
 use Rattle.channel.proofs.Laws.{sounded-le}
-use Rattle.channels.specs.declared.Channels.{Channels}
+use Rattle.three_channels.specs.declared.Channels.{Channels}
 use Rattle.mixer.specs.Mix.{mixed}
 
 -- a channel gives at most 10922, and a word at most three times that

@@ -9,7 +9,7 @@ use Rattle.channel.specs.declared.Channel.{Channel}
 use Rattle.channel.specs.declared.Heard.{Heard}
 use Rattle.channel.specs.Channel.{sounded}
 use Rattle.channel.proofs.Laws.{sounded-le}
-use Rattle.channels.specs.declared.Channels.{Channels}
+use Rattle.three_channels.specs.declared.Channels.{Channels}
 use Rattle.mixer.specs.Mix.{summed, mixed}
 
 -- a part of a word, known to be the rule's, is at most 10922

@@ -5,7 +5,7 @@ use Prim.Native.Nat.{ℕ, _+_, _/_}
 use lib.ListN.{getD}
 use Rattle.channel.specs.declared.Heard.{Heard}
 use Rattle.channel.specs.Channel.{sounded}
-use Rattle.channels.specs.declared.Channels.{Channels}
+use Rattle.three_channels.specs.declared.Channels.{Channels}
 use Rattle.mixer.specs.declared.Mixed.{Mixed}
 
 abbrev pub summed : Heard → Heard → Heard → Mixed

@@ -3,7 +3,7 @@ ghost use mathlib.Core.Path.{_≡_};
 ghost use Prim.Native.Nat.{_<_};
 ghost use Rattle.tables.specs.Levels.{levels};
 ghost use Rattle.mixer.specs.Mix.{mixed};
-use channels::Channels;
+use three_channels::Channels;
 
 pub struct Mixed {
     pub word: u16,

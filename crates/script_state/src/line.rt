@@ -3,11 +3,11 @@ use crate::numbers;
 use chip::Chip;
 use chip::Core;
 use generators::Generators;
-use channels::Channels;
 use registers::Voice;
 use script_print::put_form;
 use script_print::put_hex_bytes;
 use text_put::put_bytes;
+use three_channels::Channels;
 use tone::Tone;
 
 pub fn put_state(out: &mut [u8], at: usize, chip: Chip) -> usize {

@@ -4,8 +4,8 @@ use crate::say::form;
 use crate::shown;
 use channel::Channel;
 use channel::Drum;
-use channels::Channels;
 use mixer::Mixed;
+use three_channels::Channels;
 
 pub fn go(kind: u64, steps: u64) {
     let mut s = Channels::new();

@@ -1,8 +1,8 @@
--- `channels::Channels::at` meets its contract: the code makes the tests of `channelAt`. Assumes nothing.
+-- `three_channels::Channels::at` meets its contract: the code makes the tests of `channelAt`. Assumes nothing.
 use Rattle.laws.proofs.Tests.{tests}
-use Rattle.channels.specs.Channels.{channelAt}
-use Rattle.channels.proofs.Channels.at.Statement.{statement}
-use Rattle.channels.proofs.Channels.at.Tie as tie
+use Rattle.three_channels.specs.Channels.{channelAt}
+use Rattle.three_channels.proofs.Channels.at.Statement.{statement}
+use Rattle.three_channels.proofs.Channels.at.Tie as tie
 
 returns : tie.Need-returns
 unfolding channelAt

@@ -1,7 +1,7 @@
--- `channels::Channels::new` meets its contract: each channel is the one that `Channel::new` promises. Assumes nothing.
+-- `three_channels::Channels::new` meets its contract: each channel is the one that `Channel::new` promises. Assumes nothing.
 use borrow.Author.Needs.{needs}
-use Rattle.channels.proofs.Channels.new.Statement.{statement}
-use Rattle.channels.proofs.Channels.new.Tie as tie
+use Rattle.three_channels.proofs.Channels.new.Statement.{statement}
+use Rattle.three_channels.proofs.Channels.new.Tie as tie
 
 new-requires : tie.Need-new-requires
 new-requires c κs = search needs

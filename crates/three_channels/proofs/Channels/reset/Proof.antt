@@ -1,7 +1,7 @@
--- `channels::Channels::reset` meets its contract: each channel is the one that `Channel::reset` promises. Assumes nothing.
+-- `three_channels::Channels::reset` meets its contract: each channel is the one that `Channel::reset` promises. Assumes nothing.
 use borrow.Author.Needs.{needs}
-use Rattle.channels.proofs.Channels.reset.Statement.{statement}
-use Rattle.channels.proofs.Channels.reset.Tie as tie
+use Rattle.three_channels.proofs.Channels.reset.Statement.{statement}
+use Rattle.three_channels.proofs.Channels.reset.Tie as tie
 
 reset-requires : tie.Need-reset-requires
 reset-requires c κs = search needs

@@ -1,6 +1,6 @@
 // Three channels by their number. 01, "Numbers a call can answer" and "Power-on and reset"; the crate's mixer.rs.
 ghost use mathlib.Core.Path.{_≡_};
-ghost use Rattle.channels.specs.Channels.{channelAt, putChannel, setMute, isMuted, setDrum, channelsReset, allQuiet};
+ghost use Rattle.three_channels.specs.Channels.{channelAt, putChannel, setMute, isMuted, setDrum, channelsReset, allQuiet};
 use channel::Channel;
 use channel::Drum;
 

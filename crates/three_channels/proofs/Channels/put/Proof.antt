@@ -1,8 +1,8 @@
--- `channels::Channels::put` meets its contract: the code makes the tests of `putChannel`. Assumes nothing.
+-- `three_channels::Channels::put` meets its contract: the code makes the tests of `putChannel`. Assumes nothing.
 use Rattle.laws.proofs.Tests.{tests}
-use Rattle.channels.specs.Channels.{putChannel}
-use Rattle.channels.proofs.Channels.put.Statement.{statement}
-use Rattle.channels.proofs.Channels.put.Tie as tie
+use Rattle.three_channels.specs.Channels.{putChannel}
+use Rattle.three_channels.proofs.Channels.put.Statement.{statement}
+use Rattle.three_channels.proofs.Channels.put.Tie as tie
 
 returns : tie.Need-returns
 unfolding putChannel

@@ -5,7 +5,7 @@ use lib.Dec.{ltb, eqb}
 use Rattle.channel.specs.declared.Drum.{Drum}
 use Rattle.channel.specs.declared.Channel.{Channel}
 use Rattle.channel.specs.Channel.{quiet, withMute, withDrum, channelReset}
-use Rattle.channels.specs.declared.Channels.{Channels}
+use Rattle.three_channels.specs.declared.Channels.{Channels}
 
 -- channel 0 is A, 1 is B, 2 is C
 unfoldable pub channelAt : ℕ → Channels → Channel

@@ -1,9 +1,9 @@
--- `channels::Channels::is_muted` meets its contract: below 3 `at` gives the channel, and from 3 on the answer is no. Assumes nothing.
+-- `three_channels::Channels::is_muted` meets its contract: below 3 `at` gives the channel, and from 3 on the answer is no. Assumes nothing.
 use borrow.Author.Needs.{needs}
 use Rattle.laws.proofs.Tests.{tests}
-use Rattle.channels.specs.Channels.{isMuted}
-use Rattle.channels.proofs.Channels.is_muted.Statement.{statement}
-use Rattle.channels.proofs.Channels.is_muted.Tie as tie
+use Rattle.three_channels.specs.Channels.{isMuted}
+use Rattle.three_channels.proofs.Channels.is_muted.Statement.{statement}
+use Rattle.three_channels.proofs.Channels.is_muted.Tie as tie
 
 at-requires : tie.Need-at-requires
 at-requires c κs = search needs

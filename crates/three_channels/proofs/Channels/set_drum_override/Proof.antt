@@ -1,8 +1,8 @@
--- `channels::Channels::set_drum_override` meets its contract: it joins its callees' promises. Assumes nothing.
+-- `three_channels::Channels::set_drum_override` meets its contract: it joins its callees' promises. Assumes nothing.
 use borrow.Author.Needs.{needs}
-use Rattle.channels.specs.Channels.{setDrum}
-use Rattle.channels.proofs.Channels.set_drum_override.Statement.{statement}
-use Rattle.channels.proofs.Channels.set_drum_override.Tie as tie
+use Rattle.three_channels.specs.Channels.{setDrum}
+use Rattle.three_channels.proofs.Channels.set_drum_override.Statement.{statement}
+use Rattle.three_channels.proofs.Channels.set_drum_override.Tie as tie
 
 at-requires : tie.Need-at-requires
 at-requires c κs = search needs
