@@ -37,7 +37,7 @@ fn line(kind: u64, steps: u64, a: u64, b: u64, c: u64) {
             ))
         }
         form::DRUM => drum(a),
-        form::CHANNEL | form::WORDS => three_channels::go(kind, steps),
+        form::CHANNEL | form::WORDS => channels::go(kind, steps),
         _ => runs::go(kind, start(kind, a, b, c), a, c, steps),
     }
 }
