@@ -20,7 +20,7 @@ sub-if2 : tie.Need-sub-if2 Inv-loop μ-loop
 sub-if2 c = omega arith
 
 returns-2 : tie.Need-returns-2 Inv-loop μ-loop
-returns-2 c = lined-tight _ _ _ (c .before .if1 .left) (c .if2 .taken)
+returns-2 c = lined-tight _ _ _ (c .before .if1 .left) (omega (arith, c .if2 .taken))
 
 loop-holds : tie.Need-loop-holds Inv-loop μ-loop
 loop-holds c = search lining-start
