@@ -76,17 +76,17 @@ fn made(chip: Chip) {
 fn channel(n: u8) {
     say::text(b"channel");
     say::byte(n);
-    let muted = calls_effects::set_channel_mute(calls_making::new(), n as usize, true);
+    let muted = calls_channels::set_channel_mute(calls_making::new(), n as usize, true);
     say::text(b": mute");
     say::no(muted);
-    let drum = calls_effects::set_drum_sample_override(
+    let drum = calls_channels::set_drum_sample_override(
         calls_making::new(),
         n as usize,
         Drum::Sample(1.0),
     );
     say::text(b", drum");
     say::no(drum);
-    let asked = calls_effects::is_channel_muted(muted.chip, n as usize);
+    let asked = calls_channels::is_channel_muted(muted.chip, n as usize);
     say::text(b", muted");
     say::flag(asked.yes);
     say::end();

@@ -74,7 +74,7 @@ fn drum_8() {
 
 fn drummed(drum: Drum) {
     let chip = steps::a_alone(calls_making::new());
-    let set = calls_effects::set_drum_sample_override(chip, 0, drum);
+    let set = calls_channels::set_drum_sample_override(chip, 0, drum);
     heard(set.chip);
     say::end();
 }

@@ -38,7 +38,7 @@ pub fn written(chip: Chip, register: u8, value: u8) -> Chip {
 }
 
 pub fn muted(chip: Chip, channel: usize) -> Chip {
-    let answer = calls_effects::set_channel_mute(chip, channel, true);
+    let answer = calls_channels::set_channel_mute(chip, channel, true);
     answer.chip
 }
 

@@ -30,7 +30,8 @@ use Rattle.calls_making.specs.Making.{madeOf, fresh, withClocks, resetOf, reset
 use Rattle.calls_registers.specs.Stored.{writeRegister, loadRegisters}
 use Rattle.calls_ports.specs.Ports.{stamped, writePort, writePortImmediate}
 use Rattle.calls_cycles.specs.Cycles.{setCpuCycle, syncSampleCycle, flushPendingWrites}
-use Rattle.calls_effects.specs.Effects.{irqSet, setTimerIrqState, triggered, triggerEnvelope, setChannelMute, setDrumSampleOverride}
+use Rattle.calls_effects.specs.Effects.{irqSet, setTimerIrqState, triggered, triggerEnvelope}
+use Rattle.calls_channels.specs.ChannelCalls.{setChannelMute, setDrumSampleOverride}
 use Rattle.calls_words.specs.Blocks.{blockNo, blocked, sampled}
 use Rattle.laws_in_range.proofs.Parts.{voice-kept, queue-kept, selection-kept, times-kept, channels-kept, chosen-kept}
 

@@ -28,7 +28,8 @@ use Rattle.chip.specs.Range.{clocksIn, bytesIn, toneIn, allOrNone, noiseIn, env
 use Rattle.calls_making.specs.Making.{madeOf, fresh, withClocks, resetOf, resetCall}
 use Rattle.calls_ports.specs.Ports.{writePort}
 use Rattle.calls_cycles.specs.Cycles.{setCpuCycle, syncSampleCycle, flushPendingWrites}
-use Rattle.calls_words.specs.Blocks.{blockNumber, blocked, sampled}
+use Rattle.calls_words.specs.Blocks.{blocked, sampled}
+use Rattle.block_limits.specs.Limits.{blockNumber}
 use Rattle.laws_promises.specs.History.{Call, write-port, set-cpu-cycle, sync-sample-cycle, flush-pending-writes, reset, compute-next-sample, block, answers, after, Entry, entries, blank, enters, entered, ledger}
 use Rattle.laws_promises.specs.Demand.{positionOf, reach, Holds}
 use Rattle.laws_promises.proofs.Demand.{demand-3}

@@ -29,7 +29,8 @@ use Rattle.calls_making.specs.Making.{resetOf, resetCall}
 use Rattle.calls_registers.specs.Stored.{dumpRegisters, loadRegisters, readRegister, writeRegister}
 use Rattle.calls_ports.specs.Ports.{stamped, queued, readPort, writePort, writePortImmediate}
 use Rattle.calls_cycles.specs.Cycles.{cpuCycle, pendingWriteCount, flushed, setCpuCycle, syncSampleCycle, flushPendingWrites}
-use Rattle.calls_effects.specs.Effects.{getChannelOutputs, isChannelMuted, setTimerIrqState, triggered, triggerEnvelope, forChannel, setChannelMute, setDrumSampleOverride}
+use Rattle.calls_effects.specs.Effects.{setTimerIrqState, triggered, triggerEnvelope}
+use Rattle.calls_channels.specs.ChannelCalls.{getChannelOutputs, isChannelMuted, forChannel, setChannelMute, setDrumSampleOverride}
 use Rattle.calls_words.specs.Blocks.{blockNo, blocked, sampled}
 use Rattle.laws_promises.specs.History
 use Rattle.laws_promises.specs.History.{Call, answers, entries, Ledger, accepts, restarts, renders, restartIn, enters, isAccepted, entered}

@@ -24,8 +24,10 @@ use Rattle.calls_making.specs.Making.{resetCall}
 use Rattle.calls_registers.specs.Stored.{dumpRegisters, loadRegisters, readRegister, writeRegister}
 use Rattle.calls_ports.specs.Ports.{queued, readPort, writePort, writePortImmediate}
 use Rattle.calls_cycles.specs.Cycles.{cpuCycle, flushPendingWrites, pendingWriteCount, setCpuCycle, syncSampleCycle}
-use Rattle.calls_effects.specs.Effects.{forChannel, getChannelOutputs, isChannelMuted, setChannelMute, setDrumSampleOverride, setTimerIrqState, triggerEnvelope}
-use Rattle.calls_words.specs.Blocks.{blockNumber, blockNo, blocked, sampled}
+use Rattle.calls_effects.specs.Effects.{setTimerIrqState, triggerEnvelope}
+use Rattle.calls_channels.specs.ChannelCalls.{forChannel, getChannelOutputs, isChannelMuted, setChannelMute, setDrumSampleOverride}
+use Rattle.calls_words.specs.Blocks.{blockNo, blocked, sampled}
+use Rattle.block_limits.specs.Limits.{blockNumber}
 use Rattle.laws_promises.specs.History
 use Rattle.laws_promises.specs.History.{Call, answers}
 

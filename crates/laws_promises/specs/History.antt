@@ -11,7 +11,8 @@ use Rattle.clocking_block.specs.Block.{afterOne}
 use Rattle.clocking_word.specs.Word.{endOf, wordOf}
 use Rattle.chip.specs.declared.Chip.{Chip}
 use Rattle.calls_cycles.specs.Cycles.{cpuCycle, flushPendingWrites, pendingWriteCount, setCpuCycle, syncSampleCycle}
-use Rattle.calls_effects.specs.Effects.{getChannelOutputs, isChannelMuted, setChannelMute, setDrumSampleOverride, setTimerIrqState, triggerEnvelope}
+use Rattle.calls_effects.specs.Effects.{setTimerIrqState, triggerEnvelope}
+use Rattle.calls_channels.specs.ChannelCalls.{getChannelOutputs, isChannelMuted, setChannelMute, setDrumSampleOverride}
 use Rattle.calls_making.specs.Making.{resetCall}
 use Rattle.calls_ports.specs.Ports.{readPort, stamped, writePort, writePortImmediate}
 use Rattle.queue.specs.Waiting.{due, waiting}

@@ -1,12 +1,12 @@
--- `calls_words::block_no` meets its contract: the two tests say which case holds. Assumes nothing.
+-- `block_limits::block_no` meets its contract: the two tests say which case holds. Assumes nothing.
 use mathlib.Core.Path.{refl}
 use native.Mathlib.Omega.{arith}
 use Rattle.laws.proofs.Tests.{on-lt}
-use Rattle.calls_words.proofs.Fits.{span-fits, too-late, in-time}
-use Rattle.calls_words.specs.Blocks.{blockNumber}
+use Rattle.block_limits.proofs.Fits.{span-fits, too-late, in-time}
+use Rattle.block_limits.specs.Limits.{blockNumber}
 use borrow.Author.Needs.{needs}
-use Rattle.calls_words.proofs.block_no.Statement.{statement}
-use Rattle.calls_words.proofs.block_no.Tie as tie
+use Rattle.block_limits.proofs.block_no.Statement.{statement}
+use Rattle.block_limits.proofs.block_no.Tie as tie
 
 returns : tie.Need-returns
 unfolding blockNumber

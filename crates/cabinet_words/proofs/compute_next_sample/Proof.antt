@@ -1,14 +1,14 @@
--- `cabinet::compute_next_sample` meets its contract: the walk of `Thin.antt`, at `calls_words::compute_next_sample`. Assumes nothing.
+-- `cabinet_words::compute_next_sample` meets its contract: the walk of `Thin.antt`, at `calls_words::compute_next_sample`. Assumes nothing.
 use mathlib.Core.Path.{refl}
 use mathlib.Core.List.{[]}
 use Rattle.laws.proofs.Thin as thin
 use Rattle.calls_words.specs.Blocks.{sampled}
 use Rattle.calls_words.proofs.compute_next_sample.Symbol as g
 use Rattle.calls_words.proofs.compute_next_sample.Met as g-thm
-use Rattle.cabinet.proofs.Replies as replies
-use Rattle.cabinet.proofs.compute_next_sample.Key as key
-use Rattle.cabinet.proofs.compute_next_sample.Statement.{statement}
-use Rattle.cabinet.proofs.compute_next_sample.Code as code
+use Rattle.answers.proofs.Replies as replies
+use Rattle.cabinet_words.proofs.compute_next_sample.Key as key
+use Rattle.cabinet_words.proofs.compute_next_sample.Statement.{statement}
+use Rattle.cabinet_words.proofs.compute_next_sample.Code as code
 
 pub compute-next-sample-spec : {M : Type 1} → statement M
 unfolding code.routine

@@ -5,7 +5,7 @@ use native.Mathlib.Nat.{lt-of-le-of-lt, mul-le-mul}
 use native.Mathlib.Omega.{arith}
 use lib.Dec.{lit<}
 use Rattle.laws.proofs.Tests.{by-le, by-lt, on-le, on-gt, on-ge}
-use Rattle.calls_words.specs.Blocks.{blockNumber}
+use Rattle.block_limits.specs.Limits.{blockNumber}
 
 pub record Fits (n start cycles : ℕ) : Type 0 where
   pub short : n ≤ 65536

@@ -1,11 +1,11 @@
--- `calls_effects::get_channel_outputs` meets its contract: the record's test says which case holds. Assumes nothing.
+-- `calls_channels::get_channel_outputs` meets its contract: the record's test says which case holds. Assumes nothing.
 use mathlib.Core.Path.{refl}
 use lib.Ieee.{ofBits, ofInt}
 use Rattle.laws.proofs.Tests.{on-no, on-yes}
-use Rattle.calls_effects.specs.Effects.{getChannelOutputs}
+use Rattle.calls_channels.specs.ChannelCalls.{getChannelOutputs}
 use borrow.Author.Needs.{needs}
-use Rattle.calls_effects.proofs.get_channel_outputs.Statement.{statement}
-use Rattle.calls_effects.proofs.get_channel_outputs.Tie as tie
+use Rattle.calls_channels.proofs.get_channel_outputs.Statement.{statement}
+use Rattle.calls_channels.proofs.get_channel_outputs.Tie as tie
 
 in-range-requires : tie.Need-in-range-requires
 in-range-requires c κs = search needs

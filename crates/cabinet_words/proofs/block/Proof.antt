@@ -1,14 +1,14 @@
--- `cabinet::block` meets its contract: the walk of `ThinSlice.antt`, at `calls_words::block`. Assumes nothing.
+-- `cabinet_words::block` meets its contract: the walk of `ThinSlice.antt`, at `calls_words::block`. Assumes nothing.
 use mathlib.Core.Path.{refl}
 use lib.ListN.{length}
 use Rattle.laws.proofs.ThinSlice as thin
 use Rattle.calls_words.specs.Blocks.{blockBuffer, blocked}
 use Rattle.calls_words.proofs.block.Symbol as g
 use Rattle.calls_words.proofs.block.Met as g-thm
-use Rattle.cabinet.proofs.Replies as replies
-use Rattle.cabinet.proofs.block.Key as key
-use Rattle.cabinet.proofs.block.Statement.{statement}
-use Rattle.cabinet.proofs.block.Code as code
+use Rattle.answers.proofs.Replies as replies
+use Rattle.cabinet_words.proofs.block.Key as key
+use Rattle.cabinet_words.proofs.block.Statement.{statement}
+use Rattle.cabinet_words.proofs.block.Code as code
 
 pub block-spec : {M : Type 1} → statement M
 unfolding code.routine

@@ -1,10 +1,10 @@
--- `calls_effects::is_channel_muted` meets its contract: the record's test says which case holds. Assumes nothing.
+-- `calls_channels::is_channel_muted` meets its contract: the record's test says which case holds. Assumes nothing.
 use mathlib.Core.Path.{refl}
 use Rattle.laws.proofs.Tests.{on-no, on-yes}
-use Rattle.calls_effects.specs.Effects.{isChannelMuted}
+use Rattle.calls_channels.specs.ChannelCalls.{isChannelMuted}
 use borrow.Author.Needs.{needs}
-use Rattle.calls_effects.proofs.is_channel_muted.Statement.{statement}
-use Rattle.calls_effects.proofs.is_channel_muted.Tie as tie
+use Rattle.calls_channels.proofs.is_channel_muted.Statement.{statement}
+use Rattle.calls_channels.proofs.is_channel_muted.Tie as tie
 
 in-range-requires : tie.Need-in-range-requires
 in-range-requires c κs = search needs
