@@ -2,7 +2,7 @@
 use mathlib.Core.Bool.{Bool}
 use mathlib.Core.List.{List}
 use mathlib.Core.Path.{_≡_, refl}
-use Prim.Native.Nat.{ℕ, zero, suc, _/_, _%_}
+use Prim.Native.Nat.{ℕ, zero, suc, _%_}
 use native.Mathlib.Omega.{arith}
 use lib.Dec.{leb, eqb}
 use Rattle.laws.proofs.Tests.{by-cond, by-eq}
@@ -10,10 +10,9 @@ use Rattle.envelope.proofs.Circling.{restarted-in}
 use Rattle.generators.proofs.Kept.{tones-released-in}
 use Rattle.channel.specs.declared.Drum.{Drum}
 use Rattle.mixer.specs.Mix.{setMute, setDrum}
-use Rattle.registers.specs.declared.Voice.{Voice}
 use Rattle.registers.specs.Range.{VoiceInRange}
 use Rattle.registers.proofs.Kept.{apply-in, loaded-in, reset-in, new-in}
-use Rattle.queue.specs.Waiting.{waiting, push}
+use Rattle.queue.specs.Waiting.{waiting}
 use Rattle.queue.proofs.Laws.{empty-kept, emptied-kept, push-kept}
 use Rattle.queue_flush.proofs.Applying.{applied-in}
 use Rattle.chip.specs.declared.Chip.{Chip}
@@ -22,15 +21,15 @@ use Rattle.clocking_block.specs.Block.{afterOne, afterWords}
 use Rattle.clocking_word.proofs.Stepping.{Stepped, stepped}
 use Rattle.chip.specs.Clocks.{clocksNo, clocksOf}
 use Rattle.chip.specs.Range.{chipIn}
-use Rattle.chip.proofs.Verdicts.{Accepted, accepts}
-use Rattle.chip.proofs.InRange.{InRange, passes, core-runs}
+use Rattle.chip.proofs.Verdicts.{accepts}
+use Rattle.chip.proofs.InRange.{InRange, core-runs}
 use Rattle.answers.specs.declared.Answered.{Answered}
 use Rattle.answers.specs.declared.Blocked.{Blocked}
 use Rattle.calls_making.specs.Making.{madeOf, fresh, withClocks, resetOf, resetCall}
 use Rattle.calls_registers.specs.Stored.{writeRegister, loadRegisters}
-use Rattle.calls_ports.specs.Ports.{stamped, writePort, writePortImmediate}
+use Rattle.calls_ports.specs.Ports.{bit1Clear, stamped, writePort, writePortImmediate}
 use Rattle.calls_cycles.specs.Cycles.{setCpuCycle, syncSampleCycle, flushPendingWrites}
-use Rattle.calls_effects.specs.Effects.{irqSet, setTimerIrqState, triggered, triggerEnvelope}
+use Rattle.calls_effects.specs.Effects.{irqSet, setTimerIrqState, triggerEnvelope}
 use Rattle.calls_channels.specs.ChannelCalls.{setChannelMute, setDrumSampleOverride}
 use Rattle.calls_words.specs.Blocks.{blockNo, blocked, sampled}
 use Rattle.laws_in_range.proofs.Parts.{voice-kept, queue-kept, selection-kept, times-kept, channels-kept, chosen-kept}
@@ -86,7 +85,7 @@ module _ {c : Chip} (h : InRange c) where
   unfolding writePort
   write-port-kept port value =
       chosen-kept (chipIn c) _ _
-      (chosen-kept (eqb (port / 2 % 2) 0) _ _ (selection-kept h (value % 16) (omega arith))
+      (chosen-kept (bit1Clear port) _ _ (selection-kept h (value % 16) (omega arith))
       (queue-kept h (push-kept (stamped value c) (c .queue) (h .selected) (h .queue))))
       h
 
@@ -94,7 +93,7 @@ module _ {c : Chip} (h : InRange c) where
   unfolding writePortImmediate
   write-port-immediate-kept port value =
       chosen-kept (chipIn c) _ _
-      (chosen-kept (eqb (port / 2 % 2) 0) _ _ (selection-kept h (value % 16) (omega arith))
+      (chosen-kept (bit1Clear port) _ _ (selection-kept h (value % 16) (omega arith))
       (voice-kept h (apply-in (c .core .selected) value (h .voice))))
       h
 
