@@ -1,26 +1,17 @@
 // Mutes, drums and last outputs. 01, "Numbers a call can answer" and "One tick, one word".
 ghost use mathlib.Core.Path.{_≡_};
-ghost use Rattle.calls_channels.specs.ChannelCalls.{getChannelOutputs, isChannelMuted, setChannelMute, setDrumSampleOverride};
+ghost use Rattle.calls_channels.specs.ChannelCalls.{forChannel, getChannelOutputs, isChannelMuted, setChannelMute, setDrumSampleOverride};
 use answers::Answered;
 use answers::Flag;
 use answers::Outputs;
 use channel::Drum;
 use chip::Chip;
+use mixer::Channels;
 
 pub fn set_channel_mute(chip: Chip, channel: usize, muted: bool) -> Answered
     ensures { λ r. ⌜ r ≡ setChannelMute channel muted chip ⌝ }
 {
-    if !chip::in_range(chip) {
-        return answers::refused(chip);
-    }
-    if channel >= 3 {
-        return Answered {
-            chip,
-            no: refusals::NO_SUCH_CHANNEL,
-        };
-    }
-    let channels = chip.core.channels.set_mute(channel, muted);
-    answers::accepted(chip_parts::with_channels(chip, channels))
+    for_channel(chip, channel, chip.core.channels.set_mute(channel, muted))
 }
 
 pub fn is_channel_muted(chip: Chip, channel: usize) -> Flag
@@ -41,17 +32,7 @@ pub fn is_channel_muted(chip: Chip, channel: usize) -> Flag
 pub fn set_drum_sample_override(chip: Chip, channel: usize, drum: Drum) -> Answered
     ensures { λ r. ⌜ r ≡ setDrumSampleOverride channel drum chip ⌝ }
 {
-    if !chip::in_range(chip) {
-        return answers::refused(chip);
-    }
-    if channel >= 3 {
-        return Answered {
-            chip,
-            no: refusals::NO_SUCH_CHANNEL,
-        };
-    }
-    let channels = chip.core.channels.set_drum_override(channel, drum);
-    answers::accepted(chip_parts::with_channels(chip, channels))
+    for_channel(chip, channel, chip.core.channels.set_drum_override(channel, drum))
 }
 
 pub fn get_channel_outputs(chip: Chip) -> Outputs
@@ -72,4 +53,20 @@ pub fn get_channel_outputs(chip: Chip) -> Outputs
         b: channels.b.output,
         c: channels.c.output,
     }
+}
+
+// The channels are set, unless there is no such channel.
+fn for_channel(chip: Chip, channel: usize, channels: Channels) -> Answered
+    ensures { λ r. ⌜ r ≡ forChannel channel channels chip ⌝ }
+{
+    if !chip::in_range(chip) {
+        return answers::refused(chip);
+    }
+    if channel >= 3 {
+        return Answered {
+            chip,
+            no: refusals::NO_SUCH_CHANNEL,
+        };
+    }
+    answers::accepted(chip_parts::with_channels(chip, channels))
 }

@@ -4,7 +4,6 @@ use native.Mathlib.Omega.{arith}
 use Rattle.laws.proofs.Tests.{on-lt}
 use Rattle.block_limits.proofs.Fits.{span-fits, too-late, in-time}
 use Rattle.block_limits.specs.Limits.{blockNumber}
-use borrow.Author.Needs.{needs}
 use Rattle.block_limits.proofs.block_no.Statement.{statement}
 use Rattle.block_limits.proofs.block_no.Tie as tie
 
