@@ -2,7 +2,7 @@
 use Prim.Native.Nat.{ℕ}
 use lib.Dec.{leb}
 use mathlib.Core.Bool.{Bool, cond, false}
-use Rattle.answers.specs.Answers.{answered, checked}
+use Rattle.answers.specs.Answers.{answered, unless22}
 use Rattle.chip_parts.specs.Parts.{withChannels}
 use Rattle.answers.specs.declared.Answered.{Answered}
 use Rattle.answers.specs.declared.Flag.{Flag}
@@ -17,7 +17,7 @@ use Rattle.refusals.specs.Numbers.{accepted, noSuchChannel, outOfRange}
 
 -- mute or drum for channel 3 or above: nothing changes
 abbrev pub forChannel : ℕ → Channels → Chip → Answered
-forChannel channel channels c = checked c (cond (leb 3 channel) (answered noSuchChannel c) (answered accepted (withChannels channels c)))
+forChannel channel channels c = unless22 c (cond (leb 3 channel) (answered noSuchChannel c) (answered accepted (withChannels channels c)))
 
 unfoldable pub setChannelMute : ℕ → Bool → Chip → Answered
 setChannelMute channel muted c = forChannel channel (setMute channel muted (c .core .channels)) c

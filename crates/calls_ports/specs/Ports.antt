@@ -2,7 +2,7 @@
 use Prim.Native.Nat.{_%_, _/_, ℕ}
 use lib.Dec.{eqb, ltb}
 use mathlib.Core.Bool.{Bool, cond}
-use Rattle.answers.specs.Answers.{answered, byteAnswer, checked}
+use Rattle.answers.specs.Answers.{answered, byteAnswer, unless22}
 use Rattle.chip_parts.specs.Parts.{onVoice, voiceOf, withQueue, withSelection}
 use Rattle.answers.specs.declared.Answered.{Answered}
 use Rattle.answers.specs.declared.Byte.{Byte}
@@ -28,14 +28,14 @@ queued c p = answered (p .no) (withQueue (p .queue) c)
 -- Port bit 1 clear selects (value modulo 16) at once; set, it queues the write.
 unfoldable pub writePort : ℕ → ℕ → Chip → Answered
 writePort port value c =
-    checked c
+    unless22 c
     (cond (bit1Clear port) (answered accepted (withSelection (value % 16) c))
     (queued c (push (stamped value c) (c .queue))))
 
 -- `write_port_immediate` skips the queue.
 unfoldable pub writePortImmediate : ℕ → ℕ → Chip → Answered
 writePortImmediate port value c =
-    checked c
+    unless22 c
     (cond (bit1Clear port) (answered accepted (withSelection (value % 16) c))
     (answered accepted (onVoice (applyRegister (c .core .selected) value) c)))
 

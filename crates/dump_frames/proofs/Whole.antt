@@ -29,7 +29,7 @@ use Rattle.calls_making.specs.Making.{withClocks, madeOf, fresh}
 use Rattle.calls_words.specs.Blocks.{blockNo, blockPlayed, blocked, blockBuffer}
 use Rattle.block_limits.specs.Limits.{blockNumber}
 use Rattle.laws_in_range.proofs.Parts.{voice-kept}
-use Rattle.laws_in_range.proofs.Kept.{with-clocks-kept, words-kept}
+use Rattle.laws_in_range.proofs.CallsInRange.{with-clocks-kept, words-kept}
 use Rattle.dump_frames.specs.Frame.{RegisterWrite, written, frameWrites, frameChip, framePlayed, frameBuffer}
 use Rattle.dump_frames.specs.Whole.{placeOf, valueOf, chipBefore, frameWords}
 

@@ -22,7 +22,7 @@ use Rattle.chip.specs.Range.{chipIn}
 use Rattle.chip.proofs.InRange.{InRange}
 use Rattle.answers.specs.declared.Answered.{Answered}
 use Rattle.answers.specs.declared.Blocked.{Blocked}
-use Rattle.answers.specs.Answers.{answered, checked}
+use Rattle.answers.specs.Answers.{answered, unless22}
 use Rattle.chip_parts.specs.Parts.{onVoice, withVoice, withSelection, withTimes, withChannels}
 use Rattle.calls_making.specs.Making.{resetOf, resetCall}
 use Rattle.calls_registers.specs.Stored.{dumpRegisters, loadRegisters, readRegister, writeRegister}
@@ -86,7 +86,7 @@ module _ (x : Call) (c : Chip) (l : Ledger) where
   reads number = by-cond (Deed x c c l) (isAccepted number) l l (λ _. nothing) (λ _. nothing)
 
   -- 22 is checked before all else
-  tested : (m : Ledger) (a : Answered) → Comes m a → Comes m (checked c a)
+  tested : (m : Ledger) (a : Answered) → Comes m a → Comes m (unless22 c a)
   tested m a k = by-cond (Comes m) (chipIn c) a (answered outOfRange c) (λ _. k) (λ _. nothing)
 
   -- a change that neither the queue nor the clocks see

@@ -19,7 +19,7 @@ use Rattle.answers.specs.declared.Count.{Count}
 use Rattle.answers.specs.declared.Cycle.{Cycle}
 use Rattle.answers.specs.declared.Flag.{Flag}
 use Rattle.answers.specs.declared.Outputs.{Outputs}
-use Rattle.answers.specs.Answers.{answered, checked}
+use Rattle.answers.specs.Answers.{answered, unless22}
 use Rattle.calls_making.specs.Making.{resetCall}
 use Rattle.calls_registers.specs.Stored.{dumpRegisters, loadRegisters, readRegister, writeRegister}
 use Rattle.calls_ports.specs.Ports.{bit1Clear, queued, readPort, writePort, writePortImmediate}
@@ -58,10 +58,10 @@ module _ (c : Chip) where
         stays = λ _. refl;
       }
 
-  tested : (a : Answered) → Numbered c a → Numbered c (checked c a)
+  tested : (a : Answered) → Numbered c a → Numbered c (unless22 c a)
   tested a k = by-cond (Numbered c) (chipIn c) a (answered outOfRange c) (λ _. k) (λ e. broken e outOfRange)
 
-  done : (d : Chip) → Numbered c (checked c (answered accepted d))
+  done : (d : Chip) → Numbered c (unless22 c (answered accepted d))
   done d = tested _ (takes d)
 
   channelled : (channel : ℕ) (channels : Channels) → Numbered c (forChannel channel channels c)

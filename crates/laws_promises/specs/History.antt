@@ -121,8 +121,8 @@ pub record Ledger : Type 0 where
   pub applied : List Write
   pub restarted : Bool
 
-abbrev pub blank : Ledger
-blank = record { words = []; accepted = []; applied = []; restarted = false }
+abbrev pub emptyLedger : Ledger
+emptyLedger = record { words = []; accepted = []; applied = []; restarted = false }
 
 abbrev pub accepts : List Write → Ledger → Ledger
 accepts writes l = record { words = l .words; accepted = l .accepted ++ writes; applied = l .applied; restarted = l .restarted }
@@ -145,7 +145,7 @@ dataWrite port write = cond (bit1Clear port) [] (write ∷ [])
 
 -- What an accepted call enters: a port write its data write, a flush what waits, a block its words; a reset begins anew.
 unfoldable pub enters : Call → Chip → Ledger → Ledger
-enters reset c l = blank
+enters reset c l = emptyLedger
 enters (write-register register value) c l = restarts (eqb register 13) l
 enters (load-registers bytes) c l = restarts true l
 enters (write-port port value) c l = accepts (dataWrite port (stamped value c)) l

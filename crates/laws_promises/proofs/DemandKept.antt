@@ -14,9 +14,9 @@ use Rattle.chip.specs.Clocks.{clocksNo, clocksOf}
 use Rattle.chip.proofs.InRange.{InRange}
 use Rattle.calls_making.specs.Making.{madeOf, resetOf}
 use Rattle.calls_cycles.specs.Cycles.{flushed}
-use Rattle.laws_in_range.proofs.Kept as Calls
+use Rattle.laws_in_range.proofs.CallsInRange as Calls
 use Rattle.laws_promises.specs.History
-use Rattle.laws_promises.specs.History.{Call, answers, after, Entry, ticksIn, appliedIn, Ledger, blank, renders, enters, entered, ledger}
+use Rattle.laws_promises.specs.History.{Call, answers, after, Entry, ticksIn, appliedIn, Ledger, emptyLedger, renders, enters, entered, ledger}
 use Rattle.laws_promises.specs.Demand.{Small, noiseOf, Kept}
 use Rattle.laws_promises.proofs.Sounds.{all-leave, leaves-agrees, reset-sounds}
 use Rattle.laws_promises.proofs.Words.{Rendered, rendered}
@@ -154,7 +154,7 @@ calls-kept (x ∷ calls) c l k =
     calls-kept calls (answers x c .chip) (entered x c l) (deed-kept k (in-range x c (k .range)) (deed x c l (k .range)))
 
 -- a new chip
-pub made-kept : (master rate : ℕ) → clocksNo master rate ≡ 0 → Keeps master rate (madeOf (clocksOf master rate)) blank
+pub made-kept : (master rate : ℕ) → clocksNo master rate ≡ 0 → Keeps master rate (madeOf (clocksOf master rate)) emptyLedger
 unfolding madeOf
 made-kept master rate e =
     let r = Calls.made-kept master rate e in
