@@ -12,12 +12,12 @@ abbrev pub answered : ℕ → Chip → Answered
 answered number c = record { chip = c; no = number }
 
 -- 22 is checked before all else, and nothing changes.
-abbrev pub checked : Chip → Answered → Answered
-checked c answer = cond (chipIn c) answer (answered outOfRange c)
+abbrev pub unless22 : Chip → Answered → Answered
+unless22 c answer = cond (chipIn c) answer (answered outOfRange c)
 
 -- a call that accepts every record in range
 abbrev pub does : (Chip → Chip) → Chip → Answered
-does step c = checked c (answered accepted (step c))
+does step c = unless22 c (answered accepted (step c))
 
 abbrev pub byteAnswer : ℕ → ℕ → Byte
 byteAnswer number value = record { no = number; value = value }

@@ -1,21 +1,19 @@
-// Every call, on a chip record that its owner lends. 01, "One tick, one word": "The cabinet host lends its one chip record and reads the new state there afterwards."
+// The calls on a chip record that its owner lends, but for words and blocks (`cabinet_words`). 01, "One tick, one word": "The cabinet host
+// lends its one chip record and reads the new state there afterwards."
 // Calls that only read take `&Chip` and stand last.
 ghost use mathlib.Core.Path.{_≡_};
-ghost use lib.ListN.{length};
 ghost use Rattle.calls_making.specs.Making.{resetCall};
 ghost use Rattle.calls_registers.specs.Stored.{dumpRegisters, loadRegisters, readRegister, writeRegister};
 ghost use Rattle.calls_ports.specs.Ports.{readPort, writePort, writePortImmediate};
 ghost use Rattle.calls_cycles.specs.Cycles.{cpuCycle, flushPendingWrites, pendingWriteCount, setCpuCycle, syncSampleCycle};
-ghost use Rattle.calls_effects.specs.Effects.{getChannelOutputs, isChannelMuted, setChannelMute, setDrumSampleOverride, setTimerIrqState, triggerEnvelope};
-ghost use Rattle.calls_words.specs.Blocks.{blockBuffer, blocked, sampled};
+ghost use Rattle.calls_effects.specs.Effects.{setTimerIrqState, triggerEnvelope};
+ghost use Rattle.calls_channels.specs.ChannelCalls.{getChannelOutputs, isChannelMuted, setChannelMute, setDrumSampleOverride};
 use answers::Byte;
 use answers::Bytes;
 use answers::Count;
 use answers::Cycle;
 use answers::Flag;
 use answers::Outputs;
-use answers::Played;
-use answers::Sample;
 use channel::Drum;
 use chip::Chip;
 
@@ -121,7 +119,7 @@ pub fn set_channel_mute(chip: &mut Chip, channel: usize, muted: bool) -> u8
     ensures { λ r. ⌜ (r ≡ setChannelMute channel muted (now (chip .entry)) .no)
         × (now (chip .exit) ≡ setChannelMute channel muted (now (chip .entry)) .chip) ⌝ }
 {
-    let r = calls_effects::set_channel_mute(*chip, channel, muted);
+    let r = calls_channels::set_channel_mute(*chip, channel, muted);
     *chip = r.chip;
     r.no
 }
@@ -130,27 +128,9 @@ pub fn set_drum_sample_override(chip: &mut Chip, channel: usize, drum: Drum) -> 
     ensures { λ r. ⌜ (r ≡ setDrumSampleOverride channel drum (now (chip .entry)) .no)
         × (now (chip .exit) ≡ setDrumSampleOverride channel drum (now (chip .entry)) .chip) ⌝ }
 {
-    let r = calls_effects::set_drum_sample_override(*chip, channel, drum);
+    let r = calls_channels::set_drum_sample_override(*chip, channel, drum);
     *chip = r.chip;
     r.no
-}
-
-pub fn compute_next_sample(chip: &mut Chip) -> Sample
-    ensures { λ r. ⌜ (r ≡ sampled (now (chip .entry)) .answer) × (now (chip .exit) ≡ sampled (now (chip .entry)) .chip) ⌝ }
-{
-    let r = calls_words::compute_next_sample(*chip);
-    *chip = r.chip;
-    r.answer
-}
-
-pub fn block(chip: &mut Chip, out: &mut [u16]) -> Played
-    ensures { λ r. ⌜ (r ≡ blocked (length (now (out .entry))) (now (chip .entry)) .answer)
-        × (now (chip .exit) ≡ blocked (length (now (out .entry))) (now (chip .entry)) .chip)
-        × (now (out .exit) ≡ blockBuffer (now (out .entry)) (now (chip .entry))) ⌝ }
-{
-    let r = calls_words::block(*chip, out);
-    *chip = r.chip;
-    r.answer
 }
 
 pub fn read_register(chip: &Chip, register: u8) -> Byte
@@ -186,11 +166,11 @@ pub fn pending_write_count(chip: &Chip) -> Count
 pub fn is_channel_muted(chip: &Chip, channel: usize) -> Flag
     ensures { λ r. ⌜ r ≡ isChannelMuted channel (now (chip .entry)) ⌝ }
 {
-    calls_effects::is_channel_muted(*chip, channel)
+    calls_channels::is_channel_muted(*chip, channel)
 }
 
 pub fn get_channel_outputs(chip: &Chip) -> Outputs
     ensures { λ r. ⌜ r ≡ getChannelOutputs (now (chip .entry)) ⌝ }
 {
-    calls_effects::get_channel_outputs(*chip)
+    calls_channels::get_channel_outputs(*chip)
 }

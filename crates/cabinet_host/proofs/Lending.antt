@@ -44,8 +44,7 @@ use denote.Triple.Clauses.{Ended, Clauses, Lasts, ensured, lasts, closing}
 use denote.Triple.Walked.{says, Stays, stay-none, hasOf, walkOf, goes-none, ends-at, walked, walk-meets}
 use denote.Exit.{yes}
 use Rattle.laws.proofs.Flat.{Lent, lent-row, lent-mir, Flat, row, val-of, vals as answers, Reply, reply, reply-row, reply-mir, reply-laws}
-use Rattle.laws.proofs.Args.{slots, Arg, get, spells, tells, after, copies, locs, Blocks, envs, spot-at, next-at, after-at, from-at, alloc-all}
-use Rattle.cabinet_host.proofs.Passing.{Passed, stays, go, fins, fits, values, Known, cross, get-cross, to-owns, to-has, free-all, pass-all, opds-second}
+use Rattle.laws.proofs.Args.{slots, Arg, get, spells, tells, after, copies, locs, Blocks, envs, spot-at, next-at, after-at, from-at, alloc-all, PassedArgs, stays, go, fins, fits, values, Known, cross, get-cross, to-owns, to-has, free-all, pass-all, opds-second}
 use Rattle.cabinet_host.proofs.Owning.{val, vals, lay, lift, last, silent}
 
 module _ (Xs : List Flat) {K : Lent} {Q : Flat} (P : Reply K Q) where
@@ -60,7 +59,7 @@ module _ (Xs : List Flat) {K : Lent} {Q : Flat} (P : Reply K Q) where
   valued = record { signature = record { lifetimes = 0; outlives = []; params = plain (λ _. lent-row K) ∷ slots 0 Xs; result = plain (λ _. reply-row P) }; kept = (yes, all yes (slots 0 Xs)) }
 
   abbrev stayed : Stays (valued .signature .params) (valued .kept)
-  stayed = (stay-none (λ _. lent-row K) yes, stays Xs)
+  stayed = (stay-none (λ _. lent-row K) yes, stays 0 Xs)
 
   -- the locals: the chip that is lent, the answer, the reference, the chip's copy
   abbrev iC : ℕ
@@ -93,12 +92,12 @@ module _ (Xs : List Flat) {K : Lent} {Q : Flat} (P : Reply K Q) where
       abbrev Callee : Contract 𝓤
       Callee = tripleOf 𝓤 H A (lent .signature) (closing 𝓤 H A lent (lent-says 𝓤))
 
-      module _ (W : Given 𝓤 H A) (h : K .T .D) (h-is : Is (lent-row K) h (vals K h)) (x : Passed Xs) (x-is : Known Xs x) where
+      module _ (W : Given 𝓤 H A) (h : K .T .D) (h-is : Is (lent-row K) h (vals K h)) (x : PassedArgs 0 tt Xs) (x-is : Known 0 tt Xs x) where
         abbrev at₀ : Vals (valued .signature) tt
         at₀ = (vals K h, valss (typesAt (slots 0 Xs) tt) (spells 0 tt Xs) x)
 
         abbrev vs : List Val
-        vs = val K h ∷ values Xs x
+        vs = val K h ∷ values 0 tt Xs x
 
         abbrev Post : Val → SProp 𝓤
         Post = walkOf 𝓤 H A valued stayed (valued-says 𝓤) .post ((tt, tt, tt, (h, x), at₀), tt)
@@ -109,9 +108,9 @@ module _ (Xs : List Flat) {K : Lent} {Q : Flat} (P : Reply K Q) where
 
         exits : Is (reply-row P) R (LL.vals (reply P) (reply-laws P) R) → ent 𝓤 (emp 𝓤) (Post (LL.val (reply P) (reply-laws P) R))
         exits is =
-            qed W [] ∵ suffices ! _ (ends-at 𝓤 H A valued stayed (valued-says 𝓤) W ((tt, tt, tt, (h, x), at₀), tt) (LL.val (reply P) (reply-laws P) R) R (last K yes h, fins Xs x) (tt, fits Xs x)) $ says ! refl $
+            qed W [] ∵ suffices ! _ (ends-at 𝓤 H A valued stayed (valued-says 𝓤) W ((tt, tt, tt, (h, x), at₀), tt) (LL.val (reply P) (reply-laws P) R) R (last K yes h, fins 0 tt Xs x) (tt, fits 0 tt Xs x)) $ says ! refl $
             nothing ! $ frame ! $ owned ! (lent-row K) (Is (lent-row K)) (LL.makes (K .T) (K .plain) 𝓤 H A) h _ h-is $
-            use0 W (‵ (hasOf tt (slots 0 Xs) (all yes (slots 0 Xs)) (stays Xs) x (fins Xs x) (at₀ .1))) (to-has 𝓤 H A Xs x x-is) $ move ! (1 ∷ 0 ∷ []) $ fjoin ! $
+            use0 W (‵ (hasOf tt (slots 0 Xs) (all yes (slots 0 Xs)) (stays 0 Xs) x (fins 0 tt Xs x) (at₀ .1))) (to-has 0 tt 𝓤 H A Xs x x-is) $ move ! (1 ∷ 0 ∷ []) $ fjoin ! $
             owned ! (reply-row P) (Is (reply-row P)) (LL.makes (reply P) (LL.field-plain (K .T) (K .plain), (Q .pure, tt)) 𝓤 H A) R _ is $ move ! (1 ∷ 0 ∷ []) $ done !
 
         answer-is : (r : Q .R .Denot) (v : Val) → Is (row Q) r (v ∷ []) → r ≡ P .answer R → Is (row Q) (P .answer R) (answers Q (P .answer R))
@@ -126,17 +125,17 @@ module _ (Xs : List Flat) {K : Lent} {Q : Flat} (P : Reply K Q) where
           ref = record { ptr = (l, 0); name = γ; now = h }
 
           abbrev to : Callee .Ghost
-          to = ((κs, (fullShare, tt), tt, (ref, cross κs Xs x), (vptr l 0 ∷ [], valss (typesAt (slots 1 Xs) κs) (spells 1 κs Xs) (cross κs Xs x))), tt)
+          to = ((κs, (fullShare, tt), tt, (ref, cross 0 tt 1 κs Xs x), (vptr l 0 ∷ [], valss (typesAt (slots 1 Xs) κs) (spells 1 κs Xs) (cross 0 tt 1 κs Xs x))), tt)
 
           goes-in : ent 𝓤 (sep 𝓤 (sep 𝓤 (A .lft (α ∷ []) fullShare) (sem 𝓤 H A ftrue)) (sem 𝓤 H A (owns (MutRef (named 0) (α ∷ []) (lent-row K) ∷ typesAt (slots 1 Xs) κs) (to .0 .3) (to .0 .4)))) (Callee .pre to)
           goes-in = qed W ((‵ (flft (α ∷ []) fullShare) ⊛ ‵ ftrue) ∷ ‵ (owns (MutRef (named 0) (α ∷ []) (lent-row K) ∷ typesAt (slots 1 Xs) κs) (to .0 .3) (to .0 .4)) ∷ []) ∵ join ! $ frame ! $ done !
 
           -- what the call says of its answer r, and of the chip's last value c
           abbrev Said : Q .R .Denot → K .T .D → Type 0
-          Said r c = (r ≡ P .answer (F h (get 1 κs Xs (cross κs Xs x)))) × (c ≡ P .chip (F h (get 1 κs Xs (cross κs Xs x))))
+          Said r c = (r ≡ P .answer (F h (get 1 κs Xs (cross 0 tt 1 κs Xs x)))) × (c ≡ P .chip (F h (get 1 κs Xs (cross 0 tt 1 κs Xs x))))
 
-          same-as : F h (get 1 κs Xs (cross κs Xs x)) ≡ R
-          same-as = ap (F h) (get-cross κs Xs x)
+          same-as : F h (get 1 κs Xs (cross 0 tt 1 κs Xs x)) ≡ R
+          same-as = ap (F h) (get-cross 0 tt 1 κs Xs x)
 
         module _ (l₀ l₁ : ℕ) (bs : Blocks Xs) (lC lN lR lT : ℕ) where
           -- the locals, at their blocks
@@ -172,7 +171,7 @@ module _ (Xs : List Flat) {K : Lent} {Q : Flat} (P : Reply K Q) where
           walk =
               qed W (‵ ftrue ∷ ‵ (owns (lent-row K ∷ typesAt (slots 0 Xs) tt) (h, x) at₀) ∷ []) ∵ keep ! [] $ enter ! C Λ (code g) vs _ $
               alloc1 ! (λ l₀. alloc1 ! (λ l₁. alloc-all ! Xs (λ bs. alloc1 ! (λ lC. alloc1 ! (λ lN. alloc1 ! (λ lR. alloc1 ! (λ lT. alloc0 ! $ params1 ! $
-              pass1 ! (init ! 9 refl (LL.lawful (K .T) (K .laws) 𝓤 H A W .typed h _ h-is .0)) $ move ! (8 ∷ []) $ pass-all ! Xs bs x x-is (rest l₀ l₁ bs lC lN lR lT) (
+              pass1 ! (init ! 9 refl (LL.lawful (K .T) (K .laws) 𝓤 H A W .typed h _ h-is .0)) $ move ! (8 ∷ []) $ pass-all ! 0 tt Xs bs x x-is (rest l₀ l₁ bs lC lN lR lT) (
               -- [the others' locals; the copy's; …; the reference's; …; the answer's; …; the chip's; …; _1; …; _0; …]
               assigns ! (of-opd ! (load ! (from ! (stop !)) (look ! 9 refl))) (from-at ! (at-C l₀ l₁ bs lC lN lR lT) (stop !)) (init ! 7 refl (LL.lawful (K .T) (K .laws) 𝓤 H A W .typed h _ h-is .0)) $
               assigns ! (addr ! (from-at ! (at-C l₀ l₁ bs lC lN lR lT) (stop !))) (from-at ! (at-R l₀ l₁ bs lC lN lR lT) (stop !)) (init ! 3 refl (tt, tt)) $
@@ -180,10 +179,10 @@ module _ (Xs : List Flat) {K : Lent} {Q : Flat} (P : Reply K Q) where
               move ! (7 ∷ []) $ use1 W (‵ (partAt (lent-row K) fullShare h lC 0)) (lay K 𝓤 H A W h lC 0 h-is) $ lft-new ! tt (λ α. move ! (1 ∷ []) $
               use1 W (later (some (λ (γ : GName). ‵ (MutRef (named 0) (α ∷ []) (lent-row K) .own (ref α lC γ) (vptr lC 0 ∷ [])) ⊛ ‵ (flent (α ∷ []) (Body (mem (lent-row K)) lC 0 γ))))) (lends-ref 𝓤 H A W (lent-row K) (named 0) (α ∷ []) h lC 0) $ await ! tt $ pick ! (λ γ. split ! $
               -- [the reference; the lender's part; the token; the others' locals; ..]
-              use0 W (‵ (owns (typesAt (slots 1 Xs) (κs α lC γ)) (cross (κs α lC γ) Xs x) (to α lC γ .0 .4 .1))) (to-owns 𝓤 H A (κs α lC γ) Xs x x-is) $ move ! (1 ∷ 0 ∷ []) $ fjoin ! $
+              use0 W (‵ (owns (typesAt (slots 1 Xs) (κs α lC γ)) (cross 0 tt 1 (κs α lC γ) Xs x) (to α lC γ .0 .4 .1))) (to-owns 0 tt 1 (κs α lC γ) 𝓤 H A Xs x x-is) $ move ! (1 ∷ 0 ∷ []) $ fjoin ! $
               nothing ! $ move ! (3 ∷ 0 ∷ []) $ join ! $ use2 W (raw (Callee .pre (to α lC γ))) (goes-in α lC γ) $ move ! (0 ∷ 2 ∷ []) $
               -- [the callee's; the others' locals; the lender's part; the copy's local; …; the reference's; …; the answer's; …; the end of the chip's; _1; …; _0; …]
-              calls-at ! fm Callee known (to α lC γ) (and-then ! (load ! (from-at ! (at-R l₀ l₁ bs lC lN lR lT) (stop !)) (look ! 5 refl)) (opds-second ! (κs α lC γ) Xs bs x (E l₀ l₁ bs lC lN lR lT) (rest l₀ l₁ bs lC lN lR lT) 2 refl)) (λ v.
+              calls-at ! fm Callee known (to α lC γ) (and-then ! (load ! (from-at ! (at-R l₀ l₁ bs lC lN lR lT) (stop !)) (look ! 5 refl)) (opds-second ! 0 tt 1 (κs α lC γ) Xs bs x (E l₀ l₁ bs lC lN lR lT) (rest l₀ l₁ bs lC lN lR lT) 2 refl)) (λ v.
               use1 W (later (some (λ (r : Q .R .Denot). ((‵ (flft (α ∷ []) fullShare) ⊛ ‵ ftrue) ⊛ ‵ (row Q .own r (v ∷ []))) ⊛ raw (ensured 𝓤 H A lent (lent-says 𝓤) (κs α lC γ) (to α lC γ .0 .3) tt r)))) (id⊢ 𝓤 _) $ await ! tt $ pick ! (λ r.
               split ! $ move ! (1 ∷ []) $ use1 W (some (λ (zs : Lasts lent (κs α lC γ) (to α lC γ .0 .3)). ‵ (lasts lent (κs α lC γ) (to α lC γ .0 .3) zs) ⊛ raw (fact 𝓤 (Said α lC γ r (zs .0))))) (id⊢ 𝓤 _) $ pick ! (λ zs.
               split ! $ move ! (1 ∷ []) $ heard ! (Said α lC γ r (zs .0)) (λ e. fsplit ! $ move ! (2 ∷ []) $ split ! $ split ! $
@@ -198,13 +197,13 @@ module _ (Xs : List Flat) {K : Lent} {Q : Flat} (P : Reply K Q) where
               assigns ! (of-opd ! (load ! (from-at ! (at-C l₀ l₁ bs lC lN lR lT) (stop !)) (look ! 0 refl))) (from-at ! (at-T l₀ l₁ bs lC lN lR lT) (stop !)) (init ! 4 refl (LL.lawful (K .T) (K .laws) 𝓤 H A W .typed (P .chip R) _ c-is .0)) $
               assigns ! (agg ! (and-then ! (load ! (from-at ! (at-T l₀ l₁ bs lC lN lR lT) (stop !)) (look ! 4 refl)) (and-then ! (load ! (from-at ! (at-N l₀ l₁ bs lC lN lR lT) (stop !)) (look ! 8 refl)) (no-more !)))) (from ! (stop !)) (init ! 13 refl (LL.lawful (reply P) (reply-laws P) 𝓤 H A W .typed R _ (LL.owes (reply P) (reply-laws P) R (c-is, (answer-is r v r-is (e .0 ∙ ap (P .answer) (same-as α lC γ)), tt))) .0)) $
               returns ! (look ! 13 refl) $ forget ! 0 refl $ forget ! 4 refl $ forget ! 6 refl $ forget ! 8 refl $ forget ! 11 refl $ forget ! 13 refl $ move ! (13 ∷ 14 ∷ []) $ free1 ! $ move ! (11 ∷ 12 ∷ []) $ free1 ! $
-              move ! (3 ∷ []) $ free-all ! Xs bs x (move ! (0 ∷ 9 ∷ []) $ free1 ! $ move ! (6 ∷ 7 ∷ []) $ free1 ! $ move ! (4 ∷ 5 ∷ []) $ free1 ! $ move ! (2 ∷ 3 ∷ []) $ free1 ! $ free0 ! $
+              move ! (3 ∷ []) $ free-all ! 0 tt Xs bs x (move ! (0 ∷ 9 ∷ []) $ free1 ! $ move ! (6 ∷ 7 ∷ []) $ free1 ! $ move ! (4 ∷ 5 ∷ []) $ free1 ! $ move ! (2 ∷ 3 ∷ []) $ free1 ! $ free0 ! $
               keep ! [] $ by ! (exits (LL.owes (reply P) (reply-laws P) R (c-is, (answer-is r v r-is (e .0 ∙ ap (P .answer) (same-as α lC γ)), tt)))))))))))))))))))))
 
     module _ {M : Type 1} (𝓤 : URA M) (H : Heap 𝓤) (A : Atoms 𝓤) (W : Given 𝓤 H A) where
       valued-meets : (𝓣 : Tables 𝓤 H) (g : Name) → Triple 𝓤 (𝓣 .C g) (Callee 𝓤 H A) → Meets 𝓤 H A (valued .signature) (WpFn 𝓤 H (𝓣 .C) (𝓣 .Λ) (code g)) (closing 𝓤 H A valued (valued-says 𝓤))
       valued-meets 𝓣 g known =
-          walk-meets 𝓤 H A valued stayed W (goes-none 𝓤 H A W 0 (λ _. lent-row K) yes (λ κs x f. silent K yes x f), go 𝓤 H A W Xs) (valued-says 𝓤)
+          walk-meets 𝓤 H A valued stayed W (goes-none 𝓤 H A W 0 (λ _. lent-row K) yes (λ κs x f. silent K yes x f), go 𝓤 H A W 0 Xs) (valued-says 𝓤)
           (WpFn 𝓤 H (𝓣 .C) (𝓣 .Λ) (code g)) (WpFn-mono 𝓤 H (W .laws) 𝓣 (code g))
           (walked 𝓤 H A valued stayed (valued-says 𝓤) (WpFn 𝓤 H (𝓣 .C) (𝓣 .Λ) (code g)) (λ κs. (vals K, spells 0 tt Xs)) (λ κs. (LL.tells (K .T) (K .laws), tells 0 tt Xs))
           (λ κs qs bounds a _ are. via 𝓤 _ (fst∗ 𝓤 _ (emp 𝓤)) (walk 𝓤 H A W (a .0) (are .0) (a .1) (are .1) (𝓣 .C) (𝓣 .Λ) (fmOf 𝓤 H (W .laws) 𝓣) g known)))

@@ -1,4 +1,3 @@
-pub mod Passing
 pub mod Owning
 pub mod Lending
 pub mod LendingSlice

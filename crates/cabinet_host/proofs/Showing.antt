@@ -42,8 +42,7 @@ use denote.Triple.Clauses.{Ended, Clauses, ensured, lasts, closing}
 use denote.Triple.Walked.{says, Stays, stay-none, hasOf, walkOf, goes-none, ends-at, walked, walk-meets}
 use denote.Exit.{yes}
 use Rattle.laws.proofs.Flat.{Lent, lent-row, lent-mir, Flat, row}
-use Rattle.laws.proofs.Args.{slots, Arg, get, spells, tells, after, copies, locs, Blocks, envs, spot-at, next-at, after-at, from-at, alloc-all}
-use Rattle.cabinet_host.proofs.Passing.{Passed, stays, go, fins, fits, values, Known, cross, get-cross, to-owns, to-has, free-all, pass-all, opds-second}
+use Rattle.laws.proofs.Args.{slots, Arg, get, spells, tells, after, copies, locs, Blocks, envs, spot-at, next-at, after-at, from-at, alloc-all, PassedArgs, stays, go, fins, fits, values, Known, cross, get-cross, to-owns, to-has, free-all, pass-all, opds-second}
 use Rattle.cabinet_host.proofs.Owning.{val, vals, lay, lift, last, silent}
 
 module _ (Xs : List Flat) (K : Lent) (Q : Flat) where
@@ -58,7 +57,7 @@ module _ (Xs : List Flat) (K : Lent) (Q : Flat) where
   valued = record { signature = record { lifetimes = 0; outlives = []; params = plain (λ _. lent-row K) ∷ slots 0 Xs; result = plain (λ _. row Q) }; kept = (yes, all yes (slots 0 Xs)) }
 
   abbrev stayed : Stays (valued .signature .params) (valued .kept)
-  stayed = (stay-none (λ _. lent-row K) yes, stays Xs)
+  stayed = (stay-none (λ _. lent-row K) yes, stays 0 Xs)
 
   -- the locals: the chip that is lent, and the reference
   abbrev iC : ℕ
@@ -89,21 +88,21 @@ module _ (Xs : List Flat) (K : Lent) (Q : Flat) where
       abbrev Callee : Contract 𝓤
       Callee = tripleOf 𝓤 H A (lent .signature) (closing 𝓤 H A lent (lent-says 𝓤))
 
-      module _ (W : Given 𝓤 H A) (h : K .T .D) (h-is : Is (lent-row K) h (vals K h)) (x : Passed Xs) (x-is : Known Xs x) where
+      module _ (W : Given 𝓤 H A) (h : K .T .D) (h-is : Is (lent-row K) h (vals K h)) (x : PassedArgs 0 tt Xs) (x-is : Known 0 tt Xs x) where
         abbrev at₀ : Vals (valued .signature) tt
         at₀ = (vals K h, valss (typesAt (slots 0 Xs) tt) (spells 0 tt Xs) x)
 
         abbrev vs : List Val
-        vs = val K h ∷ values Xs x
+        vs = val K h ∷ values 0 tt Xs x
 
         abbrev Post : Val → SProp 𝓤
         Post = walkOf 𝓤 H A valued stayed (valued-says 𝓤) .post ((tt, tt, tt, (h, x), at₀), tt)
 
         exits : (r : Q .R .Denot) (v : Val) → r ≡ F h (get 0 tt Xs x) → ent 𝓤 (sem 𝓤 H A (row Q .own r (v ∷ []))) (Post v)
         exits r v e =
-            qed W (‵ (row Q .own r (v ∷ [])) ∷ []) ∵ suffices ! _ (ends-at 𝓤 H A valued stayed (valued-says 𝓤) W ((tt, tt, tt, (h, x), at₀), tt) v r (last K yes h, fins Xs x) (tt, fits Xs x)) $ says ! e $
+            qed W (‵ (row Q .own r (v ∷ [])) ∷ []) ∵ suffices ! _ (ends-at 𝓤 H A valued stayed (valued-says 𝓤) W ((tt, tt, tt, (h, x), at₀), tt) v r (last K yes h, fins 0 tt Xs x) (tt, fits 0 tt Xs x)) $ says ! e $
             nothing ! $ frame ! $ owned ! (lent-row K) (Is (lent-row K)) (LL.makes (K .T) (K .plain) 𝓤 H A) h _ h-is $
-            use0 W (‵ (hasOf tt (slots 0 Xs) (all yes (slots 0 Xs)) (stays Xs) x (fins Xs x) (at₀ .1))) (to-has 𝓤 H A Xs x x-is) $ move ! (1 ∷ 0 ∷ []) $ fjoin ! $ done !
+            use0 W (‵ (hasOf tt (slots 0 Xs) (all yes (slots 0 Xs)) (stays 0 Xs) x (fins 0 tt Xs x) (at₀ .1))) (to-has 0 tt 𝓤 H A Xs x x-is) $ move ! (1 ∷ 0 ∷ []) $ fjoin ! $ done !
 
         -- the call, at the lifetime α, of the chip at the block l under the name γ
         module _ (α l : ℕ) (γ : GName) where
@@ -114,13 +113,13 @@ module _ (Xs : List Flat) (K : Lent) (Q : Flat) where
           ref = record { ptr = (l, 0); name = γ; now = h }
 
           abbrev to : Callee .Ghost
-          to = ((κs, (fullShare, tt), tt, (ref, cross κs Xs x), (vptr l 0 ∷ [], valss (typesAt (slots 1 Xs) κs) (spells 1 κs Xs) (cross κs Xs x))), tt)
+          to = ((κs, (fullShare, tt), tt, (ref, cross 0 tt 1 κs Xs x), (vptr l 0 ∷ [], valss (typesAt (slots 1 Xs) κs) (spells 1 κs Xs) (cross 0 tt 1 κs Xs x))), tt)
 
           goes-in : ent 𝓤 (sep 𝓤 (sep 𝓤 (A .lft (α ∷ []) fullShare) (sem 𝓤 H A ftrue)) (sem 𝓤 H A (owns (ShrRef (named 0) (α ∷ []) (lent-row K) ∷ typesAt (slots 1 Xs) κs) (to .0 .3) (to .0 .4)))) (Callee .pre to)
           goes-in = qed W ((‵ (flft (α ∷ []) fullShare) ⊛ ‵ ftrue) ∷ ‵ (owns (ShrRef (named 0) (α ∷ []) (lent-row K) ∷ typesAt (slots 1 Xs) κs) (to .0 .3) (to .0 .4)) ∷ []) ∵ join ! $ frame ! $ done !
 
           abbrev Said : Q .R .Denot → Type 0
-          Said r = r ≡ F h (get 1 κs Xs (cross κs Xs x))
+          Said r = r ≡ F h (get 1 κs Xs (cross 0 tt 1 κs Xs x))
 
           got-of : (r : Q .R .Denot) → ent 𝓤 (ensured 𝓤 H A lent (lent-says 𝓤) κs (to .0 .3) tt r) (fact 𝓤 (Said r))
           got-of r = exE 𝓤 _ (λ ws. snd∗ 𝓤 (sem 𝓤 H A (lasts lent κs (to .0 .3) ws)) (fact 𝓤 (Said r)))
@@ -147,17 +146,17 @@ module _ (Xs : List Flat) (K : Lent) (Q : Flat) where
           walk =
               qed W (‵ ftrue ∷ ‵ (owns (lent-row K ∷ typesAt (slots 0 Xs) tt) (h, x) at₀) ∷ []) ∵ keep ! [] $ enter ! C Λ (code g) vs _ $
               alloc1 ! (λ l₀. alloc1 ! (λ l₁. alloc-all ! Xs (λ bs. alloc1 ! (λ lC. alloc1 ! (λ lR. alloc0 ! $ params1 ! $
-              pass1 ! (init ! 5 refl (LL.lawful (K .T) (K .laws) 𝓤 H A W .typed h _ h-is .0)) $ move ! (4 ∷ []) $ pass-all ! Xs bs x x-is (rest l₀ l₁ bs lC lR) (
+              pass1 ! (init ! 5 refl (LL.lawful (K .T) (K .laws) 𝓤 H A W .typed h _ h-is .0)) $ move ! (4 ∷ []) $ pass-all ! 0 tt Xs bs x x-is (rest l₀ l₁ bs lC lR) (
               -- [the others' locals; the reference's; …; the chip's; …; _1; …; _0; …]
               assigns ! (of-opd ! (load ! (from ! (stop !)) (look ! 5 refl))) (from-at ! (at-C l₀ l₁ bs lC lR) (stop !)) (init ! 3 refl (LL.lawful (K .T) (K .laws) 𝓤 H A W .typed h _ h-is .0)) $
               assigns ! (addr ! (from-at ! (at-C l₀ l₁ bs lC lR) (stop !))) (from-at ! (at-R l₀ l₁ bs lC lR) (stop !)) (init ! 1 refl (tt, tt)) $
               -- a lifetime is made, and the chip is lent for it
               move ! (3 ∷ []) $ use1 W (‵ (partAt (lent-row K) fullShare h lC 0)) (lay K 𝓤 H A W h lC 0 h-is) $ lft-new ! tt (λ α. move ! (1 ∷ []) $
               use1 W (later (some (λ (γ : GName). ‵ (ShrRef (named 0) (α ∷ []) (lent-row K) .own (ref α lC γ) (vptr lC 0 ∷ [])) ⊛ ‵ (flent (α ∷ []) (partAt (lent-row K) fullShare h lC 0))))) (lends-shr 𝓤 H A W (lent-row K) (named 0) (α ∷ []) fullShare h lC 0) $ await ! tt $ pick ! (λ γ. split ! $
-              use0 W (‵ (owns (typesAt (slots 1 Xs) (κs α lC γ)) (cross (κs α lC γ) Xs x) (to α lC γ .0 .4 .1))) (to-owns 𝓤 H A (κs α lC γ) Xs x x-is) $ move ! (1 ∷ 0 ∷ []) $ fjoin ! $
+              use0 W (‵ (owns (typesAt (slots 1 Xs) (κs α lC γ)) (cross 0 tt 1 (κs α lC γ) Xs x) (to α lC γ .0 .4 .1))) (to-owns 0 tt 1 (κs α lC γ) 𝓤 H A Xs x x-is) $ move ! (1 ∷ 0 ∷ []) $ fjoin ! $
               nothing ! $ move ! (3 ∷ 0 ∷ []) $ join ! $ use2 W (raw (Callee .pre (to α lC γ))) (goes-in α lC γ) $ move ! (0 ∷ 2 ∷ []) $
               -- [the callee's; the others' locals; the lender's part; the reference's local; …; the end of the chip's; _1; …; _0; …]
-              calls-at ! fm Callee known (to α lC γ) (and-then ! (load ! (from-at ! (at-R l₀ l₁ bs lC lR) (stop !)) (look ! 3 refl)) (opds-second ! (κs α lC γ) Xs bs x (E l₀ l₁ bs lC lR) (rest l₀ l₁ bs lC lR) 2 refl)) (λ v.
+              calls-at ! fm Callee known (to α lC γ) (and-then ! (load ! (from-at ! (at-R l₀ l₁ bs lC lR) (stop !)) (look ! 3 refl)) (opds-second ! 0 tt 1 (κs α lC γ) Xs bs x (E l₀ l₁ bs lC lR) (rest l₀ l₁ bs lC lR) 2 refl)) (λ v.
               use1 W (later (some (λ (r : Q .R .Denot). ((‵ (flft (α ∷ []) fullShare) ⊛ ‵ ftrue) ⊛ ‵ (row Q .own r (v ∷ []))) ⊛ raw (ensured 𝓤 H A lent (lent-says 𝓤) (κs α lC γ) (to α lC γ .0 .3) tt r)))) (id⊢ 𝓤 _) $ await ! tt $ pick ! (λ r.
               split ! $ move ! (1 ∷ []) $ use1 W (raw (fact 𝓤 (Said α lC γ r))) (got-of α lC γ r) $ heard ! (Said α lC γ r) (λ e. split ! $ split ! $
               -- [the token; true; what the answer owns; the others' locals; the lender's part; ..]: the lifetime is ended, and the chip comes back
@@ -167,12 +166,12 @@ module _ (Xs : List Flat) (K : Lent) (Q : Flat) where
               -- [what the answer owns; the chip's local; true; the others' locals; the reference's; …; the end of the chip's; _1; …; _0; …]
               land ! (from ! (stop !)) (init ! 9 refl (Q .lawful 𝓤 H A W .typed (Q .into r) _ r-is .0)) $
               returns ! (look ! 9 refl) $ forget ! 1 refl $ forget ! 4 refl $ forget ! 7 refl $ forget ! 9 refl $ move ! (9 ∷ 10 ∷ []) $ free1 ! $ move ! (7 ∷ 8 ∷ []) $ free1 ! $
-              move ! (3 ∷ []) $ free-all ! Xs bs x (move ! (1 ∷ 5 ∷ []) $ free1 ! $ move ! (2 ∷ 3 ∷ []) $ free1 ! $ free0 ! $ keep ! (0 ∷ []) $ by ! (exits r v (e ∙ ap (F h) (get-cross (κs α lC γ) Xs x)))))))))))))))))
+              move ! (3 ∷ []) $ free-all ! 0 tt Xs bs x (move ! (1 ∷ 5 ∷ []) $ free1 ! $ move ! (2 ∷ 3 ∷ []) $ free1 ! $ free0 ! $ keep ! (0 ∷ []) $ by ! (exits r v (e ∙ ap (F h) (get-cross 0 tt 1 (κs α lC γ) Xs x)))))))))))))))))
 
     module _ {M : Type 1} (𝓤 : URA M) (H : Heap 𝓤) (A : Atoms 𝓤) (W : Given 𝓤 H A) where
       valued-meets : (𝓣 : Tables 𝓤 H) (g : Name) → Triple 𝓤 (𝓣 .C g) (Callee 𝓤 H A) → Meets 𝓤 H A (valued .signature) (WpFn 𝓤 H (𝓣 .C) (𝓣 .Λ) (code g)) (closing 𝓤 H A valued (valued-says 𝓤))
       valued-meets 𝓣 g known =
-          walk-meets 𝓤 H A valued stayed W (goes-none 𝓤 H A W 0 (λ _. lent-row K) yes (λ κs x f. silent K yes x f), go 𝓤 H A W Xs) (valued-says 𝓤)
+          walk-meets 𝓤 H A valued stayed W (goes-none 𝓤 H A W 0 (λ _. lent-row K) yes (λ κs x f. silent K yes x f), go 𝓤 H A W 0 Xs) (valued-says 𝓤)
           (WpFn 𝓤 H (𝓣 .C) (𝓣 .Λ) (code g)) (WpFn-mono 𝓤 H (W .laws) 𝓣 (code g))
           (walked 𝓤 H A valued stayed (valued-says 𝓤) (WpFn 𝓤 H (𝓣 .C) (𝓣 .Λ) (code g)) (λ κs. (vals K, spells 0 tt Xs)) (λ κs. (LL.tells (K .T) (K .laws), tells 0 tt Xs))
           (λ κs qs bounds a _ are. via 𝓤 _ (fst∗ 𝓤 _ (emp 𝓤)) (walk 𝓤 H A W (a .0) (are .0) (a .1) (are .1) (𝓣 .C) (𝓣 .Λ) (fmOf 𝓤 H (W .laws) 𝓣) g known)))

@@ -6,7 +6,8 @@ ghost use Rattle.calls_making.specs.Making.{resetCall};
 ghost use Rattle.calls_registers.specs.Stored.{dumpRegisters, loadRegisters, readRegister, writeRegister};
 ghost use Rattle.calls_ports.specs.Ports.{readPort, writePort, writePortImmediate};
 ghost use Rattle.calls_cycles.specs.Cycles.{cpuCycle, flushPendingWrites, pendingWriteCount, setCpuCycle, syncSampleCycle};
-ghost use Rattle.calls_effects.specs.Effects.{getChannelOutputs, isChannelMuted, setChannelMute, setDrumSampleOverride, setTimerIrqState, triggerEnvelope};
+ghost use Rattle.calls_effects.specs.Effects.{setTimerIrqState, triggerEnvelope};
+ghost use Rattle.calls_channels.specs.ChannelCalls.{getChannelOutputs, isChannelMuted, setChannelMute, setDrumSampleOverride};
 ghost use Rattle.calls_words.specs.Blocks.{blockBuffer, blocked, sampled};
 use answers::Answered;
 use answers::Blocked;
@@ -114,14 +115,14 @@ pub fn set_drum_sample_override(mut chip: Chip, channel: usize, drum: Drum) -> A
 pub fn compute_next_sample(mut chip: Chip) -> Sampled
     ensures { λ r. ⌜ r ≡ sampled chip ⌝ }
 {
-    let answer = cabinet::compute_next_sample(&mut chip);
+    let answer = cabinet_words::compute_next_sample(&mut chip);
     Sampled { chip, answer }
 }
 
 pub fn block(mut chip: Chip, out: &mut [u16]) -> Blocked
     ensures { λ r. ⌜ (r ≡ blocked (length (now (out .entry))) chip) × (now (out .exit) ≡ blockBuffer (now (out .entry)) chip) ⌝ }
 {
-    let answer = cabinet::block(&mut chip, out);
+    let answer = cabinet_words::block(&mut chip, out);
     Blocked { chip, answer }
 }
 

@@ -13,10 +13,8 @@ pub fn set_cpu_cycle(chip: Chip, cycle: u64) -> Answered
     if !chip::in_range(chip) {
         return answers::refused(chip);
     }
-    let mut core = chip.core;
-    core.stamp = cycle;
     let mut after = chip;
-    after.core = core;
+    after.core.stamp = cycle;
     answers::accepted(after)
 }
 
@@ -42,11 +40,9 @@ pub fn sync_sample_cycle(chip: Chip, cycle: u64) -> Answered
     if !chip::in_range(chip) {
         return answers::refused(chip);
     }
-    let mut core = chip.core;
-    core.stamp = cycle;
-    core.start = cycle;
     let mut after = chip;
-    after.core = core;
+    after.core.stamp = cycle;
+    after.core.start = cycle;
     answers::accepted(after)
 }
 

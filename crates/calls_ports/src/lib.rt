@@ -1,10 +1,11 @@
 // The ports. 01, "Registers and ports".
 ghost use mathlib.Core.Path.{_≡_};
-ghost use Rattle.calls_ports.specs.Ports.{readPort, writePort, writePortImmediate};
+ghost use Rattle.calls_ports.specs.Ports.{bit1Clear, queued, readPort, writePort, writePortImmediate};
 ghost use Rattle.chip_parts.specs.Parts.{withSelection};
 use answers::Answered;
 use answers::Byte;
 use chip::Chip;
+use queue::Pushed;
 use queue::Write;
 
 // Port bit 1 clear selects at once; set, it queues the write.
@@ -14,7 +15,7 @@ pub fn write_port(chip: Chip, port: u8, value: u8) -> Answered
     if !chip::in_range(chip) {
         return answers::refused(chip);
     }
-    if port / 2 % 2 == 0 {
+    if bit_1_clear(port) {
         return answers::accepted(with_selection(chip, value % 16));
     }
     let write = Write {
@@ -22,14 +23,7 @@ pub fn write_port(chip: Chip, port: u8, value: u8) -> Answered
         register: chip.core.selected,
         value,
     };
-    let pushed = chip.queue.push(write);
-    let core = chip.core;
-    let queue = pushed.queue;
-    let after = Chip { core, queue };
-    Answered {
-        chip: after,
-        no: pushed.no,
-    }
+    queued(chip, chip.queue.push(write))
 }
 
 pub fn write_port_immediate(chip: Chip, port: u8, value: u8) -> Answered
@@ -38,7 +32,7 @@ pub fn write_port_immediate(chip: Chip, port: u8, value: u8) -> Answered
     if !chip::in_range(chip) {
         return answers::refused(chip);
     }
-    if port / 2 % 2 == 0 {
+    if bit_1_clear(port) {
         return answers::accepted(with_selection(chip, value % 16));
     }
     let voice = chip.core.voice.apply_register(chip.core.selected, value);
@@ -55,7 +49,7 @@ pub fn read_port(chip: Chip, port: u8) -> Byte
         };
     }
     let selected = chip.core.selected;
-    if port / 2 % 2 == 0 {
+    if bit_1_clear(port) {
         if selected < registers::REGISTERS {
             let at = selected as usize;
             let voice = chip.core.voice;
@@ -71,12 +65,28 @@ pub fn read_port(chip: Chip, port: u8) -> Byte
     }
 }
 
+fn bit_1_clear(port: u8) -> bool
+    ensures { λ r. ⌜ r ≡ bit1Clear port ⌝ }
+{
+    port / 2 % 2 == 0
+}
+
 fn with_selection(chip: Chip, selected: u8) -> Chip
     ensures { λ r. ⌜ r ≡ withSelection selected chip ⌝ }
 {
-    let mut core = chip.core;
-    core.selected = selected;
     let mut after = chip;
-    after.core = core;
+    after.core.selected = selected;
     after
+}
+
+fn queued(chip: Chip, pushed: Pushed) -> Answered
+    ensures { λ r. ⌜ r ≡ queued chip pushed ⌝ }
+{
+    let core = chip.core;
+    let queue = pushed.queue;
+    let after = Chip { core, queue };
+    Answered {
+        chip: after,
+        no: pushed.no,
+    }
 }

@@ -1,7 +1,7 @@
 -- Register writes and reads. 01, "Registers and ports". Assumes nothing.
 use Prim.Native.Nat.{ℕ}
 use lib.Dec.{ltb}
-use lib.ListN.{replicate}
+use lib.ListN.{getD, replicate}
 use mathlib.Core.Bool.{cond}
 use mathlib.Core.List.{List, [], _∷_}
 use Rattle.answers.specs.Answers.{byteAnswer, does}
@@ -14,7 +14,6 @@ use Rattle.chip.specs.Range.{chipIn}
 use Rattle.refusals.specs.Numbers.{accepted, outOfRange}
 use Rattle.registers.specs.Registers.{applyRegister, byteAt}
 use Rattle.registers.specs.Writes.{loaded}
-use Rattle.registers.specs.declared.Voice.{Voice}
 
 unfoldable pub writeRegister : ℕ → ℕ → Chip → Answered
 writeRegister register value c = does (onVoice (applyRegister register value)) c
@@ -31,11 +30,11 @@ unfoldable pub loadRegisters : List ℕ → Chip → Answered
 loadRegisters bytes c = does (onVoice (loaded bytes)) c
 
 -- the fourteen bytes, and two zeros
-abbrev pub dumped : Voice → List ℕ
-dumped v =
-    byteAt 0 v ∷ byteAt 1 v ∷ byteAt 2 v ∷ byteAt 3 v ∷ byteAt 4 v ∷ byteAt 5 v ∷ byteAt 6 v ∷ byteAt 7 v ∷ byteAt 8 v ∷ byteAt 9 v
-    ∷ byteAt 10 v ∷ byteAt 11 v ∷ byteAt 12 v ∷ byteAt 13 v ∷ 0 ∷ 0 ∷ []
+unfoldable pub padded : List ℕ → List ℕ
+padded r =
+    getD r 0 0 ∷ getD r 1 0 ∷ getD r 2 0 ∷ getD r 3 0 ∷ getD r 4 0 ∷ getD r 5 0 ∷ getD r 6 0 ∷ getD r 7 0 ∷ getD r 8 0 ∷ getD r 9 0
+    ∷ getD r 10 0 ∷ getD r 11 0 ∷ getD r 12 0 ∷ getD r 13 0 ∷ 0 ∷ 0 ∷ []
 
 unfoldable pub dumpRegisters : Chip → Bytes
 dumpRegisters c =
-    cond (chipIn c) (record { no = accepted; bytes = dumped (voiceOf c) }) (record { no = outOfRange; bytes = replicate 16 0 })
+    cond (chipIn c) (record { no = accepted; bytes = padded (voiceOf c .registers) }) (record { no = outOfRange; bytes = replicate 16 0 })

@@ -1,6 +1,6 @@
 // Register writes and reads. 01, "Registers and ports".
 ghost use mathlib.Core.Path.{_≡_};
-ghost use Rattle.calls_registers.specs.Stored.{dumpRegisters, loadRegisters, readRegister, writeRegister};
+ghost use Rattle.calls_registers.specs.Stored.{dumpRegisters, loadRegisters, padded, readRegister, writeRegister};
 use answers::Answered;
 use answers::Byte;
 use answers::Bytes;
@@ -60,8 +60,19 @@ pub fn dump_registers(chip: Chip) -> Bytes
         };
     }
     let voice = chip.core.voice;
-    let r = voice.registers;
-    let bytes = [
+    let registers = voice.registers;
+    let bytes = padded(registers);
+    Bytes {
+        no: refusals::ACCEPTED,
+        bytes,
+    }
+}
+
+// The fourteen bytes, and two zeros.
+fn padded(r: [u8; 14]) -> [u8; 16]
+    ensures { λ bytes. ⌜ bytes ≡ padded r ⌝ }
+{
+    [
         r[0],
         r[1],
         r[2],
@@ -78,9 +89,5 @@ pub fn dump_registers(chip: Chip) -> Bytes
         r[13],
         0,
         0,
-    ];
-    Bytes {
-        no: refusals::ACCEPTED,
-        bytes,
-    }
+    ]
 }

@@ -1,22 +1,16 @@
 -- One word, and a block. 01, "Numbers a call can answer" and "One tick, one word". Assumes nothing.
-use Prim.Native.Nat.{_*_, _+_, _^_, ℕ}
-use lib.Dec.{eqb, leb, ltb}
+use Prim.Native.Nat.{ℕ}
+use lib.Dec.{eqb}
 use lib.ListN.{getD, length}
 use mathlib.Core.Bool.{cond}
 use mathlib.Core.List.{List, [], _∷_}
 use Rattle.answers.specs.declared.Blocked.{Blocked}
 use Rattle.answers.specs.declared.Sampled.{Sampled}
+use Rattle.block_limits.specs.Limits.{blockNumber}
 use Rattle.clocking_block.specs.Block.{afterWords, ticksOf, wordsOf}
 use Rattle.chip.specs.declared.Chip.{Chip}
 use Rattle.chip.specs.Range.{chipIn}
-use Rattle.refusals.specs.Numbers.{accepted, blockTooLate, blockTooLong, outOfRange}
-
--- block buffer longer than 65,536 words; block's last word would end past cycle 2^64 - 1; in this order
-unfoldable pub blockNumber : ℕ → ℕ → ℕ → ℕ
-blockNumber n start cycles =
-    cond (ltb 65536 n) blockTooLong
-    (cond (leb (2 ^ 64) (start + n * cycles)) blockTooLate
-    accepted)
+use Rattle.refusals.specs.Numbers.{accepted, outOfRange}
 
 abbrev pub blockNo : ℕ → Chip → ℕ
 blockNo n c = blockNumber n (c .core .start) (c .core .clocks .cycles)

@@ -1,15 +1,12 @@
 // One word, and a block of words into a lent buffer. 01, "One tick, one word".
 ghost use mathlib.Core.Path.{_≡_};
-ghost use Prim.Native.Nat.{_≤_};
 ghost use lib.ListN.{length};
-ghost use Rattle.calls_words.specs.Blocks.{blockBuffer, blockNumber, blockRefused, blocked, sampled};
+ghost use Rattle.calls_words.specs.Blocks.{blockBuffer, blockRefused, blocked, sampled};
 use answers::Blocked;
 use answers::Played;
 use answers::Sample;
 use answers::Sampled;
 use chip::Chip;
-
-pub const LONGEST_BLOCK: usize = 65_536;
 
 // A block is refused whole or rendered whole: a refusal leaves every word of the buffer.
 pub fn block(chip: Chip, out: &mut [u16]) -> Blocked
@@ -20,7 +17,7 @@ pub fn block(chip: Chip, out: &mut [u16]) -> Blocked
         return refused(chip, refusals::OUT_OF_RANGE);
     }
     let words = out.len();
-    let no = block_no(chip.core.start, chip.core.clocks.cycles, words);
+    let no = block_limits::block_no(chip.core.start, chip.core.clocks.cycles, words);
     if no != refusals::ACCEPTED {
         return refused(chip, no);
     }
@@ -55,21 +52,7 @@ pub fn compute_next_sample(chip: Chip) -> Sampled
     }
 }
 
-// Decided without overflow: a word's cycles are below 2^32.
-fn block_no(start: u64, cycles: u64, words: usize) -> u8
-    requires { ⌜ cycles ≤ 4294967295 ⌝ }
-    ensures { λ r. ⌜ r ≡ blockNumber words start cycles ⌝ }
-{
-    if words > LONGEST_BLOCK {
-        return refusals::BLOCK_TOO_LONG;
-    }
-    let span = (words as u64) * cycles;
-    if span > 0xffff_ffff_ffff_ffff - start {
-        return refusals::BLOCK_TOO_LATE;
-    }
-    refusals::ACCEPTED
-}
-
+// Nothing changes, 0 words, 0 ticks.
 pub fn refused(chip: Chip, number: u8) -> Blocked
     ensures { λ r. ⌜ r ≡ blockRefused number chip ⌝ }
 {

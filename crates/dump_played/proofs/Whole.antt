@@ -26,9 +26,10 @@ use Rattle.answers.specs.Answers.{answered}
 use Rattle.answers.specs.declared.Answered.{Answered}
 use Rattle.answers.specs.declared.Blocked.{Blocked}
 use Rattle.calls_making.specs.Making.{withClocks, madeOf, fresh}
-use Rattle.calls_words.specs.Blocks.{blockNumber, blockNo, blockPlayed, blocked, blockBuffer}
+use Rattle.calls_words.specs.Blocks.{blockNo, blockPlayed, blocked, blockBuffer}
+use Rattle.block_limits.specs.Limits.{blockNumber}
 use Rattle.laws_in_range.proofs.Parts.{voice-kept}
-use Rattle.laws_in_range.proofs.Kept.{with-clocks-kept, words-kept}
+use Rattle.laws_in_range.proofs.CallsInRange.{with-clocks-kept, words-kept}
 use Rattle.dump_frames.specs.Frame.{frameWrites, frameChip, framePlayed, frameBuffer}
 use Rattle.dump_played.specs.Whole.{framePlace, valueOf, chipBefore, frameWords}
 

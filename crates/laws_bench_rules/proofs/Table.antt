@@ -31,8 +31,9 @@ use Rattle.clocks.specs.Clocks.{clocksNo}
 use Rattle.chip.specs.Range.{clocksIn, bytesIn, toneIn, allOrNone, noiseIn, envelopeIn, generatorsIn, gatesIn, voiceIn, coreIn, chipIn}
 use Rattle.calls_making.specs.Making.{madeOf, fresh, withClocks, resetOf, resetCall}
 use Rattle.calls_registers.specs.Stored.{writeRegister, readRegister}
-use Rattle.calls_effects.specs.Effects.{setChannelMute, setDrumSampleOverride}
-use Rattle.calls_words.specs.Blocks.{blockNumber, blocked, blockBuffer, sampled}
+use Rattle.calls_channels.specs.ChannelCalls.{setChannelMute, setDrumSampleOverride}
+use Rattle.calls_words.specs.Blocks.{blocked, blockBuffer, sampled}
+use Rattle.block_limits.specs.Limits.{blockNumber}
 use Rattle.dump_frames.specs.Frame.{frameWrites, frameChip}
 use Rattle.dump_played.specs.Whole.{framePlace, chipBefore, frameWords, wordsIn, printed}
 use Rattle.text_put.specs.Text.{spelt}

@@ -9,7 +9,7 @@ use Rattle.channel.specs.declared.Drum.the-variants.{Sample}
 use Rattle.chip.specs.declared.Chip.{Chip}
 use Rattle.calls_making.specs.Making.{fresh, resetCall}
 use Rattle.calls_registers.specs.Stored.{writeRegister}
-use Rattle.calls_effects.specs.Effects.{setChannelMute, setDrumSampleOverride}
+use Rattle.calls_channels.specs.ChannelCalls.{setChannelMute, setDrumSampleOverride}
 use Rattle.calls_words.specs.Blocks.{blocked}
 
 -- generators after n ticks

@@ -1,2 +1,2 @@
 pub mod Parts
-pub mod Kept
+pub mod CallsInRange

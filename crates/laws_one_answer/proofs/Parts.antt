@@ -75,5 +75,9 @@ parts =
       in-range = λ h x y. by-answer (h .𝓤);
       accepted = λ h x y. by-answer (h .𝓤);
       refused = λ h x y. by-answer (h .𝓤);
+      at-start = λ h x y. by-answer (h .𝓤);
       with-voice = λ h x y. by-answer (h .𝓤);
+      with-channels = λ h x y. by-answer (h .𝓤);
+      block-no = λ h x y. by-answer (h .𝓤);
+      block-refused = λ h x y. by-answer (h .𝓤);
     }

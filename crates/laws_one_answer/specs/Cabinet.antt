@@ -1,4 +1,4 @@
--- Every call of `cabinet` is settled, what it leaves in the lent chip and the lent buffer included (`Settled`). Assumes nothing.
+-- Every call of `cabinet` and `cabinet_words` is settled, what it leaves in the lent chip and the lent buffer included (`Settled`). Assumes nothing.
 use Rattle.cabinet.proofs.reset
 use Rattle.cabinet.proofs.write_register as write-register
 use Rattle.cabinet.proofs.load_registers as load-registers
@@ -12,8 +12,8 @@ use Rattle.cabinet.proofs.inside_timer_irq as inside-timer-irq
 use Rattle.cabinet.proofs.trigger_envelope as trigger-envelope
 use Rattle.cabinet.proofs.set_channel_mute as set-channel-mute
 use Rattle.cabinet.proofs.set_drum_sample_override as set-drum-sample-override
-use Rattle.cabinet.proofs.compute_next_sample as compute-next-sample
-use Rattle.cabinet.proofs.block
+use Rattle.cabinet_words.proofs.compute_next_sample as compute-next-sample
+use Rattle.cabinet_words.proofs.block
 use Rattle.cabinet.proofs.read_register as read-register
 use Rattle.cabinet.proofs.dump_registers as dump-registers
 use Rattle.cabinet.proofs.read_port as read-port

@@ -1,4 +1,4 @@
--- Every call of `chip` is settled (`Settled`). Assumes nothing.
+-- Every call of `calls` is settled (`Settled`). Assumes nothing.
 use Rattle.calls.proofs.new
 use Rattle.calls.proofs.with_clocks as with-clocks
 use Rattle.calls.proofs.reset

@@ -1,4 +1,4 @@
--- The calls of the dump player and of `exports` are settled, what they leave in lent buffers included (`Settled`). Assumes nothing.
+-- The calls of the dump player and of `c_interface` are settled, what they leave in lent buffers included (`Settled`). Assumes nothing.
 use denote.Ref.{now}
 use Rattle.text_fields.proofs.decimal
 use Rattle.text_fields.proofs.all_hex as all-hex

@@ -1,4 +1,4 @@
--- Every call of `host` is settled, a block's buffer too (`Settled`). Assumes nothing.
+-- Every call of `cabinet_host` is settled, a block's buffer too (`Settled`). Assumes nothing.
 use Rattle.cabinet_host.proofs.reset
 use Rattle.cabinet_host.proofs.write_register as write-register
 use Rattle.cabinet_host.proofs.load_registers as load-registers

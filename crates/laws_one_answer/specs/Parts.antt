@@ -71,7 +71,11 @@ use Rattle.chip.proofs.clocks_of as clocks-of
 use Rattle.chip.proofs.in_range as in-range
 use Rattle.answers.proofs.accepted
 use Rattle.answers.proofs.refused
-use Rattle.answers.proofs.with_voice as with-voice
+use Rattle.chip_parts.proofs.at_start as at-start
+use Rattle.chip_parts.proofs.with_voice as with-voice
+use Rattle.chip_parts.proofs.with_channels as with-channels
+use Rattle.block_limits.proofs.block_no as block-no
+use Rattle.calls_words.proofs.refused as block-refused
 use Rattle.laws_one_answer.specs.Settled.{Settles, SettlesAs}
 
 pub record Parts : Type 2 where
@@ -146,4 +150,8 @@ pub record Parts : Type 2 where
   pub in-range : Settles in-range.ended (λ M. in-range.clauses)
   pub accepted : Settles accepted.ended (λ M. accepted.clauses)
   pub refused : Settles refused.ended (λ M. refused.clauses)
+  pub at-start : Settles at-start.ended (λ M. at-start.clauses)
   pub with-voice : Settles with-voice.ended (λ M. with-voice.clauses)
+  pub with-channels : Settles with-channels.ended (λ M. with-channels.clauses)
+  pub block-no : Settles block-no.ended (λ M. block-no.clauses)
+  pub block-refused : Settles block-refused.ended (λ M. block-refused.clauses)

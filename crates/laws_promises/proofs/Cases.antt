@@ -30,13 +30,14 @@ use Rattle.chip.specs.Range.{clocksIn, bytesIn, toneIn, allOrNone, noiseIn, env
 use Rattle.calls_making.specs.Making.{madeOf, fresh, withClocks, resetOf, resetCall}
 use Rattle.calls_ports.specs.Ports.{writePort}
 use Rattle.calls_cycles.specs.Cycles.{setCpuCycle, syncSampleCycle, flushPendingWrites}
-use Rattle.calls_words.specs.Blocks.{blockNumber, blocked, sampled}
-use Rattle.laws_promises.specs.History.{Call, write-port, set-cpu-cycle, sync-sample-cycle, flush-pending-writes, reset, compute-next-sample, block, answers, after, Entry, entries, blank, enters, entered, ledger}
+use Rattle.calls_words.specs.Blocks.{blocked, sampled}
+use Rattle.block_limits.specs.Limits.{blockNumber}
+use Rattle.laws_promises.specs.History.{Call, write-port, set-cpu-cycle, sync-sample-cycle, flush-pending-writes, reset, compute-next-sample, block, answers, after, Entry, entries, emptyLedger, enters, entered, ledger}
 use Rattle.laws_promises.specs.Demand.{positionOf, reach, Holds}
 use Rattle.laws_promises.proofs.Demand.{demand-3}
 
 abbrev words : List Call → List Entry
-words calls = ledger calls fresh blank .words
+words calls = ledger calls fresh emptyLedger .words
 
 -- each word's end, and how many writes it applies
 abbrev served : List Call → List (ℕ × ℕ)
@@ -53,7 +54,7 @@ abbrev late-then-early : List Call
 late-then-early = set-cpu-cycle 500 ∷ write-port 2 1 ∷ set-cpu-cycle 100 ∷ write-port 2 2 ∷ []
 
 -- the demand at this history
-pub held : Holds 2000000 44100 (after late-then-early (withClocks 2000000 44100 .chip)) (ledger late-then-early (withClocks 2000000 44100 .chip) blank)
+pub held : Holds 2000000 44100 (after late-then-early (withClocks 2000000 44100 .chip)) (ledger late-then-early (withClocks 2000000 44100 .chip) emptyLedger)
 unfolding clocksNo
 held = demand-3 2000000 44100 refl late-then-early
 
@@ -62,9 +63,9 @@ pub cases : (map (λ (w : Entry). w .ticks) (words four-words) ≡ 6 ∷ 6 ∷ 6
     × (served (late-then-early ++ compute-next-sample ∷ sync-sample-cycle 0 ∷ compute-next-sample ∷ sync-sample-cycle 400 ∷ compute-next-sample ∷ [])
     ≡ (181, 0) ∷ (181, 0) ∷ (581, 2) ∷ [])
     × (reach 1 (waiting (after late-then-early fresh .queue)) ≡ 500)
-    × (length (ledger (late-then-early ++ flush-pending-writes ∷ []) fresh blank .applied) ≡ 2)
-    × (ledger (late-then-early ++ reset ∷ compute-next-sample ∷ []) fresh blank .accepted ≡ [])
-    × (ledger (write-port 0 13 ∷ write-port 2 8 ∷ three-words) fresh blank .restarted ≡ true)
+    × (length (ledger (late-then-early ++ flush-pending-writes ∷ []) fresh emptyLedger .applied) ≡ 2)
+    × (ledger (late-then-early ++ reset ∷ compute-next-sample ∷ []) fresh emptyLedger .accepted ≡ [])
+    × (ledger (write-port 0 13 ∷ write-port 2 8 ∷ three-words) fresh emptyLedger .restarted ≡ true)
     × (positionOf (after (write-port 0 13 ∷ write-port 2 8 ∷ four-words) fresh) ≡ negsuc 40)
 unfolding shapeEntry envelopeEntry toneSet toneTick registerStep outputBy noiseTick nextPosition envelopeTick rowPlace envelopeLevel tick edgesOf toneAt putTone tonesSet seeded powerOnEdges generatorsReset gatesFrom gateOf heard sounded levelUsed gatedLevel loudnessOf mixed pairAt tonePeriodSet noisePeriodSet gatesSet envelopePeriodSet shapeSet voiceSet masked applyRegister voiceReset writesFrom waiting due late appliedInOrder registerWrites push drain queueIn ticking ticked drained ranOf mixedOf wordOf afterWords ticksOf clocksNo clocksIn bytesIn toneIn allOrNone noiseIn envelopeIn generatorsIn gatesIn voiceIn coreIn chipIn madeOf fresh resetOf resetCall writePort setCpuCycle syncSampleCycle flushPendingWrites blockNumber blocked sampled answers after entries enters entered ledger reach
 cases = (refl, refl, refl, refl, refl, refl, refl, refl, refl)

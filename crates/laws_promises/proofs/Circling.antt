@@ -12,7 +12,7 @@ use Rattle.laws_promises.specs.Demand.{FromZero}
 use Rattle.laws_promises.proofs.Sounds.{neither, all-leave, leaves-circles, reset-sounds}
 use Rattle.laws_promises.proofs.Words.{rendered}
 use Rattle.laws_promises.proofs.Deeds.{Deed, rests, flushes, begins, plays, deed}
-use Rattle.laws_promises.proofs.Kept.{in-range}
+use Rattle.laws_promises.proofs.DemandKept.{in-range}
 
 abbrev Circling : Chip → Ledger → Type 0
 Circling c l = l .restarted ≡ false → FromZero c

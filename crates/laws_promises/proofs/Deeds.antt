@@ -2,9 +2,8 @@
 use mathlib.Core.Bool.{Bool, true, false, cond}
 use mathlib.Core.List.{List, [], _∷_, _++_, append-nil}
 use mathlib.Core.Path.{_≡_, refl, sym, ap, _∙_}
-use Prim.Native.Nat.{ℕ, _/_, _%_}
+use Prim.Native.Nat.{ℕ, _%_}
 use borrow.Author.Tests.{ne-eqb}
-use lib.Dec.{eqb}
 use lib.ListN.{length}
 use Rattle.refusals.specs.Numbers.{accepted, outOfRange}
 use Rattle.laws.proofs.Tests.{by-cond, by-eq, by-le}
@@ -24,13 +23,14 @@ use Rattle.chip.specs.Range.{chipIn}
 use Rattle.chip.proofs.InRange.{InRange}
 use Rattle.answers.specs.declared.Answered.{Answered}
 use Rattle.answers.specs.declared.Blocked.{Blocked}
-use Rattle.answers.specs.Answers.{answered, checked}
+use Rattle.answers.specs.Answers.{answered, unless22}
 use Rattle.chip_parts.specs.Parts.{onVoice, withVoice, withSelection, withTimes, withChannels}
 use Rattle.calls_making.specs.Making.{resetOf, resetCall}
 use Rattle.calls_registers.specs.Stored.{dumpRegisters, loadRegisters, readRegister, writeRegister}
-use Rattle.calls_ports.specs.Ports.{stamped, queued, readPort, writePort, writePortImmediate}
+use Rattle.calls_ports.specs.Ports.{bit1Clear, stamped, queued, readPort, writePort, writePortImmediate}
 use Rattle.calls_cycles.specs.Cycles.{cpuCycle, pendingWriteCount, flushed, setCpuCycle, syncSampleCycle, flushPendingWrites}
-use Rattle.calls_effects.specs.Effects.{getChannelOutputs, isChannelMuted, setTimerIrqState, triggered, triggerEnvelope, forChannel, setChannelMute, setDrumSampleOverride}
+use Rattle.calls_effects.specs.Effects.{setTimerIrqState, triggered, triggerEnvelope}
+use Rattle.calls_channels.specs.ChannelCalls.{getChannelOutputs, isChannelMuted, forChannel, setChannelMute, setDrumSampleOverride}
 use Rattle.calls_words.specs.Blocks.{blockNo, blocked, sampled}
 use Rattle.laws_promises.specs.History
 use Rattle.laws_promises.specs.History.{Call, answers, entries, Ledger, accepts, restarts, renders, restartIn, enters, isAccepted, entered}
@@ -87,7 +87,7 @@ module _ (x : Call) (c : Chip) (l : Ledger) where
   reads number = by-cond (Deed x c c l) (isAccepted number) l l (λ _. nothing) (λ _. nothing)
 
   -- 22 is checked before all else
-  tested : (m : Ledger) (a : Answered) → Comes m a → Comes m (checked c a)
+  tested : (m : Ledger) (a : Answered) → Comes m a → Comes m (unless22 c a)
   tested m a k = by-cond (Comes m) (chipIn c) a (answered outOfRange c) (λ _. k) (λ _. nothing)
 
   -- a change that neither the queue nor the clocks see
@@ -176,8 +176,8 @@ unfolding answers enters resetCall writeRegister loadRegisters writePort writePo
 did History.reset c l h = tested _ c l _ _ (begins refl refl refl)
 did (History.write-register register value) c l h = tested _ c l _ _ (voiced _ c l (apply-leaves register value (c .core .voice)))
 did (History.load-registers bytes) c l h = tested _ c l _ _ (voiced _ c l (loaded-leaves 14 0 bytes (c .core .voice)))
-did (History.write-port port value) c l h = tested _ c l _ _ (ported _ c l (eqb (port / 2 % 2) 0) value h)
-did (History.write-port-immediate port value) c l h = tested _ c l _ _ (immediate _ c l (eqb (port / 2 % 2) 0) value)
+did (History.write-port port value) c l h = tested _ c l _ _ (ported _ c l (bit1Clear port) value h)
+did (History.write-port-immediate port value) c l h = tested _ c l _ _ (immediate _ c l (bit1Clear port) value)
 did (History.set-cpu-cycle cycle) c l h = tested _ c l _ _ (aside _ c l (withTimes cycle (c .core .start) c) refl refl refl refl)
 did (History.sync-sample-cycle cycle) c l h = tested _ c l _ _ (aside _ c l (withTimes cycle cycle c) refl refl refl refl)
 did History.flush-pending-writes c l h = tested _ c l _ _ (flushes refl refl refl)

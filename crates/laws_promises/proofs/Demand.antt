@@ -20,13 +20,13 @@ use Rattle.chip.proofs.InRange.{InRange, passes}
 use Rattle.answers.specs.declared.Answered.{Answered}
 use Rattle.calls_making.specs.Making.{madeOf, withClocks}
 use Rattle.calls_cycles.specs.Cycles.{pendingWriteCount}
-use Rattle.laws_promises.specs.History.{Call, answers, after, Entry, entries, Ledger, blank, entered, ledger}
+use Rattle.laws_promises.specs.History.{Call, answers, after, Entry, entries, Ledger, emptyLedger, entered, ledger}
 use Rattle.laws_promises.specs.Demand.{Plain, Served, Holds, FromZero, Demand}
 use Rattle.laws_promises.proofs.Sounds.{reset-sounds}
 use Rattle.laws_promises.proofs.Words.{worded}
 use Rattle.laws_promises.proofs.Deeds.{Deed, rests, flushes, begins, plays, deed}
 use Rattle.laws_promises.proofs.Numbered.{numbered}
-use Rattle.laws_promises.proofs.Kept.{Keeps, in-range, calls-kept, made-kept}
+use Rattle.laws_promises.proofs.DemandKept.{Keeps, in-range, calls-kept, made-kept}
 use Rattle.laws_promises.proofs.Circling.{calls-circle}
 use Rattle.laws_promises.proofs.Course.{Course, course-join, course-served}
 
@@ -66,8 +66,8 @@ calls-run (x ∷ calls) c l p h =
 
 -- a waiting write of any chip in range
 waiting-served : (c : Chip) → InRange c → (i : ℕ) → i < length (waiting (c .queue)) → (later : List Call) → All Plain later
-    → Served (waiting (c .queue)) i (ledger later c blank .words) (waiting (after later c .queue))
-waiting-served c h i k later p = let r = calls-run later c blank p h in rw (r .all) (course-served i k (r .course))
+    → Served (waiting (c .queue)) i (ledger later c emptyLedger .words) (waiting (after later c .queue))
+waiting-served c h i k later p = let r = calls-run later c emptyLedger p h in rw (r .all) (course-served i k (r .course))
 
 -- a refused call
 nothing-changes : (c : Chip) (l : Ledger) (x : Call) → (answers x c .no ≡ accepted → ⊥) → (answers x c .chip ≡ c) × (entered x c l ≡ l)
@@ -91,11 +91,11 @@ holds {master} {rate} {c} {l} k z =
         never22 = λ x. numbered x c .fine (passes r);
         refused = nothing-changes c l;
         count = counted c r;
-        narrow = omega (arith, n .narrow);
+        seventeen = omega (arith, n .narrow);
         agrees = k .agrees;
         position = r .voice .generators .envelope .position;
         restarted = z;
-        circles = λ a later. calls-circle later c blank r (λ _. a);
+        circles = λ a later. calls-circle later c emptyLedger r (λ _. a);
       };
     }
 
@@ -112,4 +112,4 @@ demand-3 master rate e calls =
     let m = made-kept master rate e in
     let c = madeOf (clocksOf master rate) in
     rw (← made-is master rate e)
-    (holds (calls-kept calls c blank m) (calls-circle calls c blank (m .range) (λ _. made-circles master rate)))
+    (holds (calls-kept calls c emptyLedger m) (calls-circle calls c emptyLedger (m .range) (λ _. made-circles master rate)))

@@ -26,7 +26,7 @@ use Rattle.answers.specs.declared.Blocked.{Blocked}
 use Rattle.calls_words.specs.Blocks.{blockNo, blockPlayed, blockRefused, blocked, blockBuffer, sampled}
 use Rattle.laws_promises.specs.History.{Call, compute-next-sample, block, answers, Entry, entryOf, entries, ticksIn, Ledger, renders, enters, isAccepted, entered}
 use Rattle.laws_promises.specs.Demand.{N, T}
-use Rattle.laws_promises.proofs.Kept.{ticks-append}
+use Rattle.laws_promises.proofs.DemandKept.{ticks-append}
 
 -- the writes entered are those applied, and taken off the front
 pub word-applies : (c : Chip)

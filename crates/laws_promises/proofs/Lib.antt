@@ -4,7 +4,7 @@ pub mod Sounds
 pub mod Words
 pub mod Deeds
 pub mod Numbered
-pub mod Kept
+pub mod DemandKept
 pub mod Circling
 pub mod Demand
 pub mod Public

@@ -1,7 +1,7 @@
 -- A record in range never gives 22, and a call that answers another number than 0 leaves its chip. Assumes nothing.
 use mathlib.Core.Bool.{true, false, cond}
 use mathlib.Core.Path.{_≡_, refl, sym, _∙_}
-use Prim.Native.Nat.{ℕ, _/_, _%_, _+_, _*_, _^_}
+use Prim.Native.Nat.{ℕ, _+_, _*_, _^_}
 use native.Mathlib.Omega.{arith}
 use lib.ListN.{length}
 use Rattle.refusals.specs.Numbers.{accepted, outOfRange}
@@ -19,13 +19,15 @@ use Rattle.answers.specs.declared.Count.{Count}
 use Rattle.answers.specs.declared.Cycle.{Cycle}
 use Rattle.answers.specs.declared.Flag.{Flag}
 use Rattle.answers.specs.declared.Outputs.{Outputs}
-use Rattle.answers.specs.Answers.{answered, checked}
+use Rattle.answers.specs.Answers.{answered, unless22}
 use Rattle.calls_making.specs.Making.{resetCall}
 use Rattle.calls_registers.specs.Stored.{dumpRegisters, loadRegisters, readRegister, writeRegister}
-use Rattle.calls_ports.specs.Ports.{queued, readPort, writePort, writePortImmediate}
+use Rattle.calls_ports.specs.Ports.{bit1Clear, queued, readPort, writePort, writePortImmediate}
 use Rattle.calls_cycles.specs.Cycles.{cpuCycle, flushPendingWrites, pendingWriteCount, setCpuCycle, syncSampleCycle}
-use Rattle.calls_effects.specs.Effects.{forChannel, getChannelOutputs, isChannelMuted, setChannelMute, setDrumSampleOverride, setTimerIrqState, triggerEnvelope}
-use Rattle.calls_words.specs.Blocks.{blockNumber, blockNo, blocked, sampled}
+use Rattle.calls_effects.specs.Effects.{setTimerIrqState, triggerEnvelope}
+use Rattle.calls_channels.specs.ChannelCalls.{forChannel, getChannelOutputs, isChannelMuted, setChannelMute, setDrumSampleOverride}
+use Rattle.calls_words.specs.Blocks.{blockNo, blocked, sampled}
+use Rattle.block_limits.specs.Limits.{blockNumber}
 use Rattle.laws_promises.specs.History
 use Rattle.laws_promises.specs.History.{Call, answers}
 
@@ -56,10 +58,10 @@ module _ (c : Chip) where
         stays = λ _. refl;
       }
 
-  tested : (a : Answered) → Numbered c a → Numbered c (checked c a)
+  tested : (a : Answered) → Numbered c a → Numbered c (unless22 c a)
   tested a k = by-cond (Numbered c) (chipIn c) a (answered outOfRange c) (λ _. k) (λ e. broken e outOfRange)
 
-  done : (d : Chip) → Numbered c (checked c (answered accepted d))
+  done : (d : Chip) → Numbered c (unless22 c (answered accepted d))
   done d = tested _ (takes d)
 
   channelled : (channel : ℕ) (channels : Channels) → Numbered c (forChannel channel channels c)
@@ -87,9 +89,9 @@ numbered (History.write-register register value) c = done c _
 numbered (History.load-registers bytes) c = done c _
 numbered (History.write-port port value) c =
     tested c _
-    (by-eq (Numbered c) (port / 2 % 2) 0 (λ _. takes c _)
+    (by-cond (Numbered c) (bit1Clear port) _ _ (λ _. takes c _)
     (λ _. by-le (λ (p : Pushed). Numbered c (queued c p)) 256 (c .queue .count) (λ _. refuses c 4 (λ e. omega arith)) (λ _. takes c _)))
-numbered (History.write-port-immediate port value) c = tested c _ (by-eq (Numbered c) (port / 2 % 2) 0 (λ _. takes c _) (λ _. takes c _))
+numbered (History.write-port-immediate port value) c = tested c _ (by-cond (Numbered c) (bit1Clear port) _ _ (λ _. takes c _) (λ _. takes c _))
 numbered (History.set-cpu-cycle cycle) c = done c _
 numbered (History.sync-sample-cycle cycle) c = done c _
 numbered History.flush-pending-writes c = done c _
@@ -105,7 +107,7 @@ numbered (History.read-register register) c =
 numbered History.dump-registers c = seen c (λ (b : Bytes). b .no) _ _ zero-fine
 numbered (History.read-port port) c =
     seen c (λ (b : Byte). b .no) _ _
-    (by-eq (λ (b : Byte). b .no ≡ outOfRange → ⊥) (port / 2 % 2) 0
+    (by-cond (λ (b : Byte). b .no ≡ outOfRange → ⊥) (bit1Clear port) _ _
     (λ _. by-lt (λ (b : Byte). b .no ≡ outOfRange → ⊥) (c .core .selected) 14 (λ _. zero-fine) (λ _. zero-fine)) (λ _. zero-fine))
 numbered History.cpu-cycle c = seen c (λ (b : Cycle). b .no) _ _ zero-fine
 numbered History.pending-write-count c = seen c (λ (b : Count). b .no) _ _ zero-fine

@@ -16,7 +16,8 @@ use Rattle.calls_making.specs.Making.{fresh, withClocks, resetCall, defaultMast
 use Rattle.calls_registers.specs.Stored.{dumpRegisters, loadRegisters, readRegister, writeRegister}
 use Rattle.calls_ports.specs.Ports.{readPort, writePort, writePortImmediate}
 use Rattle.calls_cycles.specs.Cycles.{cpuCycle, flushPendingWrites, pendingWriteCount, setCpuCycle, syncSampleCycle}
-use Rattle.calls_effects.specs.Effects.{getChannelOutputs, isChannelMuted, setChannelMute, setDrumSampleOverride, setTimerIrqState, triggerEnvelope}
+use Rattle.calls_effects.specs.Effects.{setTimerIrqState, triggerEnvelope}
+use Rattle.calls_channels.specs.ChannelCalls.{getChannelOutputs, isChannelMuted, setChannelMute, setDrumSampleOverride}
 use Rattle.calls_words.specs.Blocks.{blocked, sampled}
 use Rattle.laws_promises.specs.History
 use Rattle.laws_promises.specs.History.{answers}

@@ -20,7 +20,7 @@ use Rattle.clocking_word.specs.Word.{endOf, drained, ranOf, wordOf}
 use Rattle.clocking_block.specs.Block.{afterOne, afterWords}
 use Rattle.clocking_word.proofs.Stepping.{Stepped, stepped}
 use Rattle.chip.proofs.InRange.{InRange, core-runs}
-use Rattle.laws_in_range.proofs.Kept.{words-kept}
+use Rattle.laws_in_range.proofs.CallsInRange.{words-kept}
 use Rattle.laws_promises.specs.History.{Entry, entryOf, entries, ticksIn, appliedIn, restartIn}
 use Rattle.laws_promises.specs.Demand.{Small, noiseOf, FromZero}
 use Rattle.laws_promises.proofs.Sounds.{neither, all-leave, leaves-agrees, leaves-circles, ticked-circles, ticked-agrees}

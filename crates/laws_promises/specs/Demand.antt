@@ -25,7 +25,7 @@ use Rattle.queue.specs.declared.Write.{Write}
 use Rattle.clocks.specs.Clocks.{clocksNo}
 use Rattle.chip.specs.Clocks.{clocksOf}
 use Rattle.refusals.specs.Numbers.{accepted, outOfRange}
-use Rattle.laws_promises.specs.History.{Call, reset, flush-pending-writes, answers, after, Entry, ticksIn, appliedIn, Ledger, blank, entered, ledger}
+use Rattle.laws_promises.specs.History.{Call, reset, flush-pending-writes, answers, after, Entry, ticksIn, appliedIn, Ledger, emptyLedger, entered, ledger}
 
 -- "N words in T ticks"
 abbrev pub N : Ledger → ℕ
@@ -113,22 +113,22 @@ pub record Beyond (master rate : ℕ) (c : Chip) (l : Ledger) : Type 0 where
   -- 01: "the waiting count is the list's length"
   pub count : pendingWriteCount c ≡ record { no = accepted; count = length (waiting (c .queue)) }
   -- The noise register has 17 bits, and the output is all ones or all zeros by the top one.
-  pub narrow : noiseOf c .register < 2 ^ 17
+  pub seventeen : noiseOf c .register < 2 ^ 17
   pub agrees : Agrees (noiseOf c)
   -- 01: "position -64..63". It is one of -64..-1 only where the envelope was restarted, and once past them it stays past them until
   -- the next restart.
   pub position : PositionInRange (positionOf c)
   pub restarted : l .restarted ≡ false → FromZero c
-  pub circles : FromZero c → (later : List Call) → ledger later c blank .restarted ≡ false → FromZero (after later c)
+  pub circles : FromZero c → (later : List Call) → ledger later c emptyLedger .restarted ≡ false → FromZero (after later c)
 
 pub record Holds (master rate : ℕ) (c : Chip) (l : Ledger) : Type 0 where
   pub kept : Kept master rate c l
   pub served : (i : ℕ) → i < length (waiting (c .queue)) → (later : List Call) → All Plain later
-      → Served (waiting (c .queue)) i (ledger later c blank .words) (waiting (after later c .queue))
+      → Served (waiting (c .queue)) i (ledger later c emptyLedger .words) (waiting (after later c .queue))
   pub beyond : Beyond master rate c l
 
 -- "Over any calls on a chip with accepted clocks"
 abbrev pub Demand : Type 0
 Demand =
     (master rate : ℕ) → clocksNo master rate ≡ accepted → (calls : List Call)
-    → Holds master rate (after calls (withClocks master rate .chip)) (ledger calls (withClocks master rate .chip) blank)
+    → Holds master rate (after calls (withClocks master rate .chip)) (ledger calls (withClocks master rate .chip) emptyLedger)

@@ -1,7 +1,7 @@
 -- Histories of calls on a chip, and the ledger kept beside one. Definitions alone: nothing here is proved. Assumes nothing.
 use mathlib.Core.Bool.{Bool, true, false, cond}
 use mathlib.Core.List.{List, [], _∷_, _++_}
-use Prim.Native.Nat.{ℕ, zero, suc, _+_, _/_, _%_}
+use Prim.Native.Nat.{ℕ, zero, suc, _+_}
 use lib.Dec.{eqb}
 use lib.ListN.{length}
 use Rattle.answers.specs.Answers.{answered}
@@ -11,9 +11,10 @@ use Rattle.clocking_block.specs.Block.{afterOne}
 use Rattle.clocking_word.specs.Word.{endOf, wordOf}
 use Rattle.chip.specs.declared.Chip.{Chip}
 use Rattle.calls_cycles.specs.Cycles.{cpuCycle, flushPendingWrites, pendingWriteCount, setCpuCycle, syncSampleCycle}
-use Rattle.calls_effects.specs.Effects.{getChannelOutputs, isChannelMuted, setChannelMute, setDrumSampleOverride, setTimerIrqState, triggerEnvelope}
+use Rattle.calls_effects.specs.Effects.{setTimerIrqState, triggerEnvelope}
+use Rattle.calls_channels.specs.ChannelCalls.{getChannelOutputs, isChannelMuted, setChannelMute, setDrumSampleOverride}
 use Rattle.calls_making.specs.Making.{resetCall}
-use Rattle.calls_ports.specs.Ports.{readPort, stamped, writePort, writePortImmediate}
+use Rattle.calls_ports.specs.Ports.{bit1Clear, readPort, stamped, writePort, writePortImmediate}
 use Rattle.queue.specs.Waiting.{due, waiting}
 use Rattle.queue.specs.declared.Write.{Write}
 use Rattle.refusals.specs.Numbers.{accepted}
@@ -120,8 +121,8 @@ pub record Ledger : Type 0 where
   pub applied : List Write
   pub restarted : Bool
 
-abbrev pub blank : Ledger
-blank = record { words = []; accepted = []; applied = []; restarted = false }
+abbrev pub emptyLedger : Ledger
+emptyLedger = record { words = []; accepted = []; applied = []; restarted = false }
 
 abbrev pub accepts : List Write → Ledger → Ledger
 accepts writes l = record { words = l .words; accepted = l .accepted ++ writes; applied = l .applied; restarted = l .restarted }
@@ -140,11 +141,11 @@ renders ws l =
 
 -- "Port bit 1 clear selects"; "set, it queues the write": only then is it a data write.
 abbrev pub dataWrite : ℕ → Write → List Write
-dataWrite port write = cond (eqb (port / 2 % 2) 0) [] (write ∷ [])
+dataWrite port write = cond (bit1Clear port) [] (write ∷ [])
 
 -- What an accepted call enters: a port write its data write, a flush what waits, a block its words; a reset begins anew.
 unfoldable pub enters : Call → Chip → Ledger → Ledger
-enters reset c l = blank
+enters reset c l = emptyLedger
 enters (write-register register value) c l = restarts (eqb register 13) l
 enters (load-registers bytes) c l = restarts true l
 enters (write-port port value) c l = accepts (dataWrite port (stamped value c)) l

@@ -5,7 +5,7 @@ use Rattle.laws.proofs.Look as thin
 use Rattle.calls_cycles.specs.Cycles.{cpuCycle}
 use Rattle.calls_cycles.proofs.cpu_cycle.Symbol as g
 use Rattle.calls_cycles.proofs.cpu_cycle.Met as g-thm
-use Rattle.cabinet.proofs.Replies as replies
+use Rattle.answers.proofs.Replies as replies
 use Rattle.cabinet.proofs.cpu_cycle.Key as key
 use Rattle.cabinet.proofs.cpu_cycle.Statement.{statement}
 use Rattle.cabinet.proofs.cpu_cycle.Code as code

@@ -5,7 +5,7 @@ use Rattle.laws.proofs.Look as thin
 use Rattle.calls_registers.specs.Stored.{dumpRegisters}
 use Rattle.calls_registers.proofs.dump_registers.Symbol as g
 use Rattle.calls_registers.proofs.dump_registers.Met as g-thm
-use Rattle.cabinet.proofs.Replies as replies
+use Rattle.answers.proofs.Replies as replies
 use Rattle.cabinet.proofs.dump_registers.Key as key
 use Rattle.cabinet.proofs.dump_registers.Statement.{statement}
 use Rattle.cabinet.proofs.dump_registers.Code as code

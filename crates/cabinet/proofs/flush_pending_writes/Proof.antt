@@ -5,7 +5,7 @@ use Rattle.laws.proofs.Thin as thin
 use Rattle.calls_cycles.specs.Cycles.{flushPendingWrites}
 use Rattle.calls_cycles.proofs.flush_pending_writes.Symbol as g
 use Rattle.calls_cycles.proofs.flush_pending_writes.Met as g-thm
-use Rattle.cabinet.proofs.Replies as replies
+use Rattle.answers.proofs.Replies as replies
 use Rattle.cabinet.proofs.flush_pending_writes.Key as key
 use Rattle.cabinet.proofs.flush_pending_writes.Statement.{statement}
 use Rattle.cabinet.proofs.flush_pending_writes.Code as code

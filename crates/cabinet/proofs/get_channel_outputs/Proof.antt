@@ -1,11 +1,11 @@
--- `cabinet::get_channel_outputs` meets its contract: the walk of `Look.antt`, at `calls_effects::get_channel_outputs`. Assumes nothing.
+-- `cabinet::get_channel_outputs` meets its contract: the walk of `Look.antt`, at `calls_channels::get_channel_outputs`. Assumes nothing.
 use mathlib.Core.Path.{refl}
 use mathlib.Core.List.{[]}
 use Rattle.laws.proofs.Look as thin
-use Rattle.calls_effects.specs.Effects.{getChannelOutputs}
-use Rattle.calls_effects.proofs.get_channel_outputs.Symbol as g
-use Rattle.calls_effects.proofs.get_channel_outputs.Met as g-thm
-use Rattle.cabinet.proofs.Replies as replies
+use Rattle.calls_channels.specs.ChannelCalls.{getChannelOutputs}
+use Rattle.calls_channels.proofs.get_channel_outputs.Symbol as g
+use Rattle.calls_channels.proofs.get_channel_outputs.Met as g-thm
+use Rattle.answers.proofs.Replies as replies
 use Rattle.cabinet.proofs.get_channel_outputs.Key as key
 use Rattle.cabinet.proofs.get_channel_outputs.Statement.{statement}
 use Rattle.cabinet.proofs.get_channel_outputs.Code as code

@@ -6,7 +6,7 @@ use Rattle.laws.proofs.Thin as thin
 use Rattle.calls_effects.specs.Effects.{setTimerIrqState}
 use Rattle.calls_effects.proofs.inside_timer_irq.Symbol as g
 use Rattle.calls_effects.proofs.inside_timer_irq.Met as g-thm
-use Rattle.cabinet.proofs.Replies as replies
+use Rattle.answers.proofs.Replies as replies
 use Rattle.cabinet.proofs.inside_timer_irq.Key as key
 use Rattle.cabinet.proofs.inside_timer_irq.Statement.{statement}
 use Rattle.cabinet.proofs.inside_timer_irq.Code as code

@@ -1,12 +1,12 @@
--- `cabinet::is_channel_muted` meets its contract: the walk of `Look.antt`, at `calls_effects::is_channel_muted`. Assumes nothing.
+-- `cabinet::is_channel_muted` meets its contract: the walk of `Look.antt`, at `calls_channels::is_channel_muted`. Assumes nothing.
 use mathlib.Core.Path.{refl}
 use mathlib.Core.List.{[], _∷_}
 use Rattle.laws.proofs.Flat.{usizef}
 use Rattle.laws.proofs.Look as thin
-use Rattle.calls_effects.specs.Effects.{isChannelMuted}
-use Rattle.calls_effects.proofs.is_channel_muted.Symbol as g
-use Rattle.calls_effects.proofs.is_channel_muted.Met as g-thm
-use Rattle.cabinet.proofs.Replies as replies
+use Rattle.calls_channels.specs.ChannelCalls.{isChannelMuted}
+use Rattle.calls_channels.proofs.is_channel_muted.Symbol as g
+use Rattle.calls_channels.proofs.is_channel_muted.Met as g-thm
+use Rattle.answers.proofs.Replies as replies
 use Rattle.cabinet.proofs.is_channel_muted.Key as key
 use Rattle.cabinet.proofs.is_channel_muted.Statement.{statement}
 use Rattle.cabinet.proofs.is_channel_muted.Code as code

@@ -6,7 +6,7 @@ use Rattle.laws.proofs.Thin as thin
 use Rattle.calls_registers.specs.Stored.{loadRegisters}
 use Rattle.calls_registers.proofs.load_registers.Symbol as g
 use Rattle.calls_registers.proofs.load_registers.Met as g-thm
-use Rattle.cabinet.proofs.Replies as replies
+use Rattle.answers.proofs.Replies as replies
 use Rattle.cabinet.proofs.load_registers.Key as key
 use Rattle.cabinet.proofs.load_registers.Statement.{statement}
 use Rattle.cabinet.proofs.load_registers.Code as code

@@ -5,7 +5,7 @@ use Rattle.laws.proofs.Look as thin
 use Rattle.calls_cycles.specs.Cycles.{pendingWriteCount}
 use Rattle.calls_cycles.proofs.pending_write_count.Symbol as g
 use Rattle.calls_cycles.proofs.pending_write_count.Met as g-thm
-use Rattle.cabinet.proofs.Replies as replies
+use Rattle.answers.proofs.Replies as replies
 use Rattle.cabinet.proofs.pending_write_count.Key as key
 use Rattle.cabinet.proofs.pending_write_count.Statement.{statement}
 use Rattle.cabinet.proofs.pending_write_count.Code as code

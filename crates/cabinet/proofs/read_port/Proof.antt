@@ -6,7 +6,7 @@ use Rattle.laws.proofs.Look as thin
 use Rattle.calls_ports.specs.Ports.{readPort}
 use Rattle.calls_ports.proofs.read_port.Symbol as g
 use Rattle.calls_ports.proofs.read_port.Met as g-thm
-use Rattle.cabinet.proofs.Replies as replies
+use Rattle.answers.proofs.Replies as replies
 use Rattle.cabinet.proofs.read_port.Key as key
 use Rattle.cabinet.proofs.read_port.Statement.{statement}
 use Rattle.cabinet.proofs.read_port.Code as code

@@ -6,7 +6,7 @@ use Rattle.laws.proofs.Look as thin
 use Rattle.calls_registers.specs.Stored.{readRegister}
 use Rattle.calls_registers.proofs.read_register.Symbol as g
 use Rattle.calls_registers.proofs.read_register.Met as g-thm
-use Rattle.cabinet.proofs.Replies as replies
+use Rattle.answers.proofs.Replies as replies
 use Rattle.cabinet.proofs.read_register.Key as key
 use Rattle.cabinet.proofs.read_register.Statement.{statement}
 use Rattle.cabinet.proofs.read_register.Code as code

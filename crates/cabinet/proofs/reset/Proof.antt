@@ -5,7 +5,7 @@ use Rattle.laws.proofs.Thin as thin
 use Rattle.calls_making.specs.Making.{resetCall}
 use Rattle.calls_making.proofs.reset.Symbol as g
 use Rattle.calls_making.proofs.reset.Met as g-thm
-use Rattle.cabinet.proofs.Replies as replies
+use Rattle.answers.proofs.Replies as replies
 use Rattle.cabinet.proofs.reset.Key as key
 use Rattle.cabinet.proofs.reset.Statement.{statement}
 use Rattle.cabinet.proofs.reset.Code as code

@@ -6,7 +6,7 @@ use Rattle.laws.proofs.Thin as thin
 use Rattle.calls_cycles.specs.Cycles.{setCpuCycle}
 use Rattle.calls_cycles.proofs.set_cpu_cycle.Symbol as g
 use Rattle.calls_cycles.proofs.set_cpu_cycle.Met as g-thm
-use Rattle.cabinet.proofs.Replies as replies
+use Rattle.answers.proofs.Replies as replies
 use Rattle.cabinet.proofs.set_cpu_cycle.Key as key
 use Rattle.cabinet.proofs.set_cpu_cycle.Statement.{statement}
 use Rattle.cabinet.proofs.set_cpu_cycle.Code as code

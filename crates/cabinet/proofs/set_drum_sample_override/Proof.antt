@@ -1,12 +1,12 @@
--- `cabinet::set_drum_sample_override` meets its contract: the walk of `Thin.antt`, at `calls_effects::set_drum_sample_override`. Assumes nothing.
+-- `cabinet::set_drum_sample_override` meets its contract: the walk of `Thin.antt`, at `calls_channels::set_drum_sample_override`. Assumes nothing.
 use mathlib.Core.Path.{refl}
 use mathlib.Core.List.{[], _∷_}
 use Rattle.laws.proofs.Flat.{usizef}
 use Rattle.laws.proofs.Thin as thin
-use Rattle.calls_effects.specs.Effects.{setDrumSampleOverride}
-use Rattle.calls_effects.proofs.set_drum_sample_override.Symbol as g
-use Rattle.calls_effects.proofs.set_drum_sample_override.Met as g-thm
-use Rattle.cabinet.proofs.Replies as replies
+use Rattle.calls_channels.specs.ChannelCalls.{setDrumSampleOverride}
+use Rattle.calls_channels.proofs.set_drum_sample_override.Symbol as g
+use Rattle.calls_channels.proofs.set_drum_sample_override.Met as g-thm
+use Rattle.answers.proofs.Replies as replies
 use Rattle.cabinet.proofs.set_drum_sample_override.Key as key
 use Rattle.cabinet.proofs.set_drum_sample_override.Statement.{statement}
 use Rattle.cabinet.proofs.set_drum_sample_override.Code as code

@@ -6,7 +6,7 @@ use Rattle.laws.proofs.Thin as thin
 use Rattle.calls_effects.specs.Effects.{setTimerIrqState}
 use Rattle.calls_effects.proofs.set_timer_irq_state.Symbol as g
 use Rattle.calls_effects.proofs.set_timer_irq_state.Met as g-thm
-use Rattle.cabinet.proofs.Replies as replies
+use Rattle.answers.proofs.Replies as replies
 use Rattle.cabinet.proofs.set_timer_irq_state.Key as key
 use Rattle.cabinet.proofs.set_timer_irq_state.Statement.{statement}
 use Rattle.cabinet.proofs.set_timer_irq_state.Code as code

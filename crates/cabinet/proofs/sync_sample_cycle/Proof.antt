@@ -6,7 +6,7 @@ use Rattle.laws.proofs.Thin as thin
 use Rattle.calls_cycles.specs.Cycles.{syncSampleCycle}
 use Rattle.calls_cycles.proofs.sync_sample_cycle.Symbol as g
 use Rattle.calls_cycles.proofs.sync_sample_cycle.Met as g-thm
-use Rattle.cabinet.proofs.Replies as replies
+use Rattle.answers.proofs.Replies as replies
 use Rattle.cabinet.proofs.sync_sample_cycle.Key as key
 use Rattle.cabinet.proofs.sync_sample_cycle.Statement.{statement}
 use Rattle.cabinet.proofs.sync_sample_cycle.Code as code

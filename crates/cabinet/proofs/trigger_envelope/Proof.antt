@@ -5,7 +5,7 @@ use Rattle.laws.proofs.Thin as thin
 use Rattle.calls_effects.specs.Effects.{triggerEnvelope}
 use Rattle.calls_effects.proofs.trigger_envelope.Symbol as g
 use Rattle.calls_effects.proofs.trigger_envelope.Met as g-thm
-use Rattle.cabinet.proofs.Replies as replies
+use Rattle.answers.proofs.Replies as replies
 use Rattle.cabinet.proofs.trigger_envelope.Key as key
 use Rattle.cabinet.proofs.trigger_envelope.Statement.{statement}
 use Rattle.cabinet.proofs.trigger_envelope.Code as code

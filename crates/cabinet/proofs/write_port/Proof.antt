@@ -6,7 +6,7 @@ use Rattle.laws.proofs.Thin as thin
 use Rattle.calls_ports.specs.Ports.{writePort}
 use Rattle.calls_ports.proofs.write_port.Symbol as g
 use Rattle.calls_ports.proofs.write_port.Met as g-thm
-use Rattle.cabinet.proofs.Replies as replies
+use Rattle.answers.proofs.Replies as replies
 use Rattle.cabinet.proofs.write_port.Key as key
 use Rattle.cabinet.proofs.write_port.Statement.{statement}
 use Rattle.cabinet.proofs.write_port.Code as code

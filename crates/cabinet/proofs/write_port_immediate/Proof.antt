@@ -6,7 +6,7 @@ use Rattle.laws.proofs.Thin as thin
 use Rattle.calls_ports.specs.Ports.{writePortImmediate}
 use Rattle.calls_ports.proofs.write_port_immediate.Symbol as g
 use Rattle.calls_ports.proofs.write_port_immediate.Met as g-thm
-use Rattle.cabinet.proofs.Replies as replies
+use Rattle.answers.proofs.Replies as replies
 use Rattle.cabinet.proofs.write_port_immediate.Key as key
 use Rattle.cabinet.proofs.write_port_immediate.Statement.{statement}
 use Rattle.cabinet.proofs.write_port_immediate.Code as code

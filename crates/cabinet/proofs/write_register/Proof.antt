@@ -6,7 +6,7 @@ use Rattle.laws.proofs.Thin as thin
 use Rattle.calls_registers.specs.Stored.{writeRegister}
 use Rattle.calls_registers.proofs.write_register.Symbol as g
 use Rattle.calls_registers.proofs.write_register.Met as g-thm
-use Rattle.cabinet.proofs.Replies as replies
+use Rattle.answers.proofs.Replies as replies
 use Rattle.cabinet.proofs.write_register.Key as key
 use Rattle.cabinet.proofs.write_register.Statement.{statement}
 use Rattle.cabinet.proofs.write_register.Code as code

@@ -1,10 +1,10 @@
--- `cabinet_host::block` meets its contract: the walk of `LendingSlice.antt`, at `cabinet::block`. Assumes nothing.
+-- `cabinet_host::block` meets its contract: the walk of `LendingSlice.antt`, at `cabinet_words::block`. Assumes nothing.
 use mathlib.Core.Path.{refl}
 use lib.ListN.{length}
 use Rattle.calls_words.specs.Blocks.{blockBuffer, blocked}
-use Rattle.cabinet.proofs.Replies as replies
-use Rattle.cabinet.proofs.block.Symbol as g
-use Rattle.cabinet.proofs.block.Met as g-thm
+use Rattle.answers.proofs.Replies as replies
+use Rattle.cabinet_words.proofs.block.Symbol as g
+use Rattle.cabinet_words.proofs.block.Met as g-thm
 use Rattle.cabinet_host.proofs.LendingSlice as lending
 use Rattle.cabinet_host.proofs.block.Key as key
 use Rattle.cabinet_host.proofs.block.Statement.{statement}

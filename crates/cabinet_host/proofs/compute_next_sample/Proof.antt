@@ -1,10 +1,10 @@
--- `cabinet_host::compute_next_sample` meets its contract: the walk of `Lending.antt`, at `cabinet::compute_next_sample`. Assumes nothing.
+-- `cabinet_host::compute_next_sample` meets its contract: the walk of `Lending.antt`, at `cabinet_words::compute_next_sample`. Assumes nothing.
 use mathlib.Core.Path.{refl}
 use mathlib.Core.List.{[]}
 use Rattle.calls_words.specs.Blocks.{sampled}
-use Rattle.cabinet.proofs.Replies as replies
-use Rattle.cabinet.proofs.compute_next_sample.Symbol as g
-use Rattle.cabinet.proofs.compute_next_sample.Met as g-thm
+use Rattle.answers.proofs.Replies as replies
+use Rattle.cabinet_words.proofs.compute_next_sample.Symbol as g
+use Rattle.cabinet_words.proofs.compute_next_sample.Met as g-thm
 use Rattle.cabinet_host.proofs.Lending as lending
 use Rattle.cabinet_host.proofs.compute_next_sample.Key as key
 use Rattle.cabinet_host.proofs.compute_next_sample.Statement.{statement}

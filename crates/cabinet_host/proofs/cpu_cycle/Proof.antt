@@ -2,7 +2,7 @@
 use mathlib.Core.Path.{refl}
 use mathlib.Core.List.{[]}
 use Rattle.calls_cycles.specs.Cycles.{cpuCycle}
-use Rattle.cabinet.proofs.Replies as replies
+use Rattle.answers.proofs.Replies as replies
 use Rattle.cabinet.proofs.cpu_cycle.Symbol as g
 use Rattle.cabinet.proofs.cpu_cycle.Met as g-thm
 use Rattle.cabinet_host.proofs.Showing as lending

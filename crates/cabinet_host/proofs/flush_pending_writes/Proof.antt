@@ -2,7 +2,7 @@
 use mathlib.Core.Path.{refl}
 use mathlib.Core.List.{[]}
 use Rattle.calls_cycles.specs.Cycles.{flushPendingWrites}
-use Rattle.cabinet.proofs.Replies as replies
+use Rattle.answers.proofs.Replies as replies
 use Rattle.cabinet.proofs.flush_pending_writes.Symbol as g
 use Rattle.cabinet.proofs.flush_pending_writes.Met as g-thm
 use Rattle.cabinet_host.proofs.Lending as lending

@@ -1,8 +1,8 @@
 -- `cabinet_host::get_channel_outputs` meets its contract: the walk of `Showing.antt`, at `cabinet::get_channel_outputs`. Assumes nothing.
 use mathlib.Core.Path.{refl}
 use mathlib.Core.List.{[]}
-use Rattle.calls_effects.specs.Effects.{getChannelOutputs}
-use Rattle.cabinet.proofs.Replies as replies
+use Rattle.calls_channels.specs.ChannelCalls.{getChannelOutputs}
+use Rattle.answers.proofs.Replies as replies
 use Rattle.cabinet.proofs.get_channel_outputs.Symbol as g
 use Rattle.cabinet.proofs.get_channel_outputs.Met as g-thm
 use Rattle.cabinet_host.proofs.Showing as lending

@@ -3,7 +3,7 @@ use mathlib.Core.Path.{refl}
 use mathlib.Core.List.{[], _∷_}
 use Rattle.laws.proofs.Flat.{boolf}
 use Rattle.calls_effects.specs.Effects.{setTimerIrqState}
-use Rattle.cabinet.proofs.Replies as replies
+use Rattle.answers.proofs.Replies as replies
 use Rattle.cabinet.proofs.inside_timer_irq.Symbol as g
 use Rattle.cabinet.proofs.inside_timer_irq.Met as g-thm
 use Rattle.cabinet_host.proofs.Lending as lending

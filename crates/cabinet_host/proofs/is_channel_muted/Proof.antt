@@ -2,8 +2,8 @@
 use mathlib.Core.Path.{refl}
 use mathlib.Core.List.{[], _∷_}
 use Rattle.laws.proofs.Flat.{usizef}
-use Rattle.calls_effects.specs.Effects.{isChannelMuted}
-use Rattle.cabinet.proofs.Replies as replies
+use Rattle.calls_channels.specs.ChannelCalls.{isChannelMuted}
+use Rattle.answers.proofs.Replies as replies
 use Rattle.cabinet.proofs.is_channel_muted.Symbol as g
 use Rattle.cabinet.proofs.is_channel_muted.Met as g-thm
 use Rattle.cabinet_host.proofs.Showing as lending

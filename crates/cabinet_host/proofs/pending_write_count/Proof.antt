@@ -2,7 +2,7 @@
 use mathlib.Core.Path.{refl}
 use mathlib.Core.List.{[]}
 use Rattle.calls_cycles.specs.Cycles.{pendingWriteCount}
-use Rattle.cabinet.proofs.Replies as replies
+use Rattle.answers.proofs.Replies as replies
 use Rattle.cabinet.proofs.pending_write_count.Symbol as g
 use Rattle.cabinet.proofs.pending_write_count.Met as g-thm
 use Rattle.cabinet_host.proofs.Showing as lending

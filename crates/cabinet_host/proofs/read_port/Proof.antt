@@ -3,7 +3,7 @@ use mathlib.Core.Path.{refl}
 use mathlib.Core.List.{[], _∷_}
 use Rattle.laws.proofs.Flat.{u8f}
 use Rattle.calls_ports.specs.Ports.{readPort}
-use Rattle.cabinet.proofs.Replies as replies
+use Rattle.answers.proofs.Replies as replies
 use Rattle.cabinet.proofs.read_port.Symbol as g
 use Rattle.cabinet.proofs.read_port.Met as g-thm
 use Rattle.cabinet_host.proofs.Showing as lending

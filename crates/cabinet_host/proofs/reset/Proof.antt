@@ -2,7 +2,7 @@
 use mathlib.Core.Path.{refl}
 use mathlib.Core.List.{[]}
 use Rattle.calls_making.specs.Making.{resetCall}
-use Rattle.cabinet.proofs.Replies as replies
+use Rattle.answers.proofs.Replies as replies
 use Rattle.cabinet.proofs.reset.Symbol as g
 use Rattle.cabinet.proofs.reset.Met as g-thm
 use Rattle.cabinet_host.proofs.Lending as lending

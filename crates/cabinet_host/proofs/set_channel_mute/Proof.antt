@@ -2,8 +2,8 @@
 use mathlib.Core.Path.{refl}
 use mathlib.Core.List.{[], _∷_}
 use Rattle.laws.proofs.Flat.{boolf, usizef}
-use Rattle.calls_effects.specs.Effects.{setChannelMute}
-use Rattle.cabinet.proofs.Replies as replies
+use Rattle.calls_channels.specs.ChannelCalls.{setChannelMute}
+use Rattle.answers.proofs.Replies as replies
 use Rattle.cabinet.proofs.set_channel_mute.Symbol as g
 use Rattle.cabinet.proofs.set_channel_mute.Met as g-thm
 use Rattle.cabinet_host.proofs.Lending as lending

@@ -2,8 +2,8 @@
 use mathlib.Core.Path.{refl}
 use mathlib.Core.List.{[], _∷_}
 use Rattle.laws.proofs.Flat.{usizef}
-use Rattle.calls_effects.specs.Effects.{setDrumSampleOverride}
-use Rattle.cabinet.proofs.Replies as replies
+use Rattle.calls_channels.specs.ChannelCalls.{setDrumSampleOverride}
+use Rattle.answers.proofs.Replies as replies
 use Rattle.cabinet.proofs.set_drum_sample_override.Symbol as g
 use Rattle.cabinet.proofs.set_drum_sample_override.Met as g-thm
 use Rattle.cabinet_host.proofs.Lending as lending

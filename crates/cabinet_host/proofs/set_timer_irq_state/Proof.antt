@@ -3,7 +3,7 @@ use mathlib.Core.Path.{refl}
 use mathlib.Core.List.{[], _∷_}
 use Rattle.laws.proofs.Flat.{boolf}
 use Rattle.calls_effects.specs.Effects.{setTimerIrqState}
-use Rattle.cabinet.proofs.Replies as replies
+use Rattle.answers.proofs.Replies as replies
 use Rattle.cabinet.proofs.set_timer_irq_state.Symbol as g
 use Rattle.cabinet.proofs.set_timer_irq_state.Met as g-thm
 use Rattle.cabinet_host.proofs.Lending as lending

@@ -3,7 +3,7 @@ use mathlib.Core.Path.{refl}
 use mathlib.Core.List.{[], _∷_}
 use Rattle.laws.proofs.Flat.{u64f}
 use Rattle.calls_cycles.specs.Cycles.{syncSampleCycle}
-use Rattle.cabinet.proofs.Replies as replies
+use Rattle.answers.proofs.Replies as replies
 use Rattle.cabinet.proofs.sync_sample_cycle.Symbol as g
 use Rattle.cabinet.proofs.sync_sample_cycle.Met as g-thm
 use Rattle.cabinet_host.proofs.Lending as lending

@@ -20,7 +20,7 @@ accepted-requires c κs = search needs
 
 returns-2 : tie.Need-returns-2
 unfolding syncSampleCycle
-returns-2 c = on-yes _ _ _ _ _ (c .before .before .before .in-range .ensures) (c .before .before .if1 .left) (c .accepted .ensures)
+returns-2 c = on-yes _ _ _ _ _ (c .before .before .before .before .in-range .ensures) (c .before .before .before .if1 .left) (c .accepted .ensures)
 
 pub sync-sample-cycle-spec : {M : Type 1} → statement M
 sync-sample-cycle-spec =

@@ -1,9 +1,9 @@
 -- `calls_words::block` meets its contract: the record's test, then the block's number, say which case holds. Assumes nothing.
-use mathlib.Core.Path.{_≡_, refl, sym, _∙_}
+use mathlib.Core.Path.{refl, sym, _∙_}
 use Rattle.laws.proofs.Tests.{on-no, on-yes, on-eq, on-ne}
 use Rattle.chip.proofs.InRange.{InRange, core-runs}
 use Rattle.answers.proofs.Laws.{in-range}
-use Rattle.calls_words.proofs.Fits.{fits}
+use Rattle.block_limits.proofs.Fits.{fits}
 use Rattle.calls_words.specs.Blocks.{blocked, blockBuffer}
 use Prim.Native.Nat.{ℕ, _≤_, _<_}
 use native.Mathlib.Omega.{arith}

@@ -1,0 +1,26 @@
+// One word and a block, on a chip record that its owner lends. 01, "One tick, one word": "The cabinet host lends its one chip record and
+// reads the new state there afterwards."
+ghost use mathlib.Core.Path.{_≡_};
+ghost use lib.ListN.{length};
+ghost use Rattle.calls_words.specs.Blocks.{blockBuffer, blocked, sampled};
+use answers::Played;
+use answers::Sample;
+use chip::Chip;
+
+pub fn compute_next_sample(chip: &mut Chip) -> Sample
+    ensures { λ r. ⌜ (r ≡ sampled (now (chip .entry)) .answer) × (now (chip .exit) ≡ sampled (now (chip .entry)) .chip) ⌝ }
+{
+    let r = calls_words::compute_next_sample(*chip);
+    *chip = r.chip;
+    r.answer
+}
+
+pub fn block(chip: &mut Chip, out: &mut [u16]) -> Played
+    ensures { λ r. ⌜ (r ≡ blocked (length (now (out .entry))) (now (chip .entry)) .answer)
+        × (now (chip .exit) ≡ blocked (length (now (out .entry))) (now (chip .entry)) .chip)
+        × (now (out .exit) ≡ blockBuffer (now (out .entry)) (now (chip .entry))) ⌝ }
+{
+    let r = calls_words::block(*chip, out);
+    *chip = r.chip;
+    r.answer
+}
