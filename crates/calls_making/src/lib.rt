@@ -4,7 +4,6 @@ ghost use Rattle.calls_making.specs.Making.{fresh, madeOf, resetCall, wi
 use answers::Answered;
 use chip::Chip;
 use chip::Clocks;
-use registers::Voice;
 use three_channels::Channels;
 
 pub const DEFAULT_MASTER_CLOCK: u32 = 2_000_000;

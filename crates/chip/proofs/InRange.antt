@@ -1,8 +1,7 @@
 -- What the test of a record says, part by part, and back. Assumes nothing.
-use mathlib.Core.Bool.{Bool, true, false}
-use mathlib.Core.List.{List, [], _∷_}
+use mathlib.Core.Bool.{Bool, true}
 use mathlib.Core.Logic.{_⊎_, inl, inr, ⊎-elim}
-use mathlib.Core.Path.{_≡_, refl, sym, ap, _∙_}
+use mathlib.Core.Path.{_≡_, refl, ap, _∙_}
 use Prim.Native.Nat.{ℕ, _+_, _-_, _*_, _/_, _%_, _^_, _≤_, _<_}
 use native.Mathlib.Nat.{add-comm, div-lt-iff-lt-mul, mod-eq-of-lt, div-add-mod', lt-of-le-of-lt, div-le-self}
 use native.Mathlib.Omega.{arith}
@@ -28,8 +27,7 @@ use Rattle.envelope.specs.Range.{EnvelopeInRange}
 use Rattle.generators.specs.Range.{GeneratorsInRange}
 use Rattle.tone.proofs.Flipping.{tone-masked-in}
 use Rattle.registers.specs.declared.Voice.{Voice}
-use Rattle.registers.specs.Range.{BytesInRange, VoiceInRange}
-use Rattle.queue.specs.declared.Queue.{Queue}
+use Rattle.registers.specs.Range.{VoiceInRange}
 use Rattle.queue.specs.Waiting.{queueIn, QueueInRange}
 use Rattle.queue.proofs.Range.{queue-passed, queue-passes}
 use Rattle.chip.specs.declared.Chip.{Chip}

@@ -1,5 +1,5 @@
 -- A block's loop, a word at a time: what is done with what is left makes the whole. Assumes nothing.
-use mathlib.Core.List.{List, [], _∷_, _++_, append-assoc, append-nil}
+use mathlib.Core.List.{List, _++_, append-assoc, append-nil}
 use mathlib.Core.Path.{_≡_, refl, sym, _∙_}
 use Prim.Native.Nat.{ℕ, zero, suc, _+_, _*_, _^_, _≤_, _<_}
 use native.Mathlib.Nat.{suc-mul}
@@ -14,7 +14,6 @@ use Rattle.queue.specs.Waiting.{ring, QueueInRange}
 use Rattle.chip.specs.declared.Core.{Core}
 use Rattle.chip.specs.declared.Chip.{Chip}
 use Rattle.clocking_word.specs.declared.Worded.{Worded}
-use Rattle.clocking_block.specs.declared.Rendered.{Rendered}
 use Rattle.clocking_word.specs.Word.{drained, wordOf, smallOf}
 use Rattle.clocking_block.specs.Block.{afterOne, afterWords, ticksOf, wordsOf, blockOf}
 use Rattle.chip.specs.Range.{CoreInRange}

@@ -1,23 +1,17 @@
 -- A word keeps the chip in range, and its ticks come to one internal clock. Assumes nothing.
 use mathlib.Core.Path.{_≡_, refl}
-use Prim.Native.Nat.{ℕ, zero, suc, _+_, _*_, _≤_, _<_}
+use Prim.Native.Nat.{_+_, _*_, _≤_, _<_}
 use native.Mathlib.Nat.{le-mul-of-pos-right}
 use native.Mathlib.Omega.{arith}
-use Rattle.laws.proofs.Tests.{by-le}
-use Rattle.generators.specs.declared.Generators.{Generators}
 use Rattle.generators.specs.Range.{GeneratorsInRange}
-use Rattle.generators.proofs.InRange.{tick-in}
 use Rattle.envelope.proofs.Circling.{envelope-level-lt}
-use Rattle.gates.specs.declared.Gates.{Gates}
 use Rattle.mixer.proofs.Laws.{mixed-le}
 use Rattle.registers.specs.Range.{VoiceInRange}
 use Rattle.queue.specs.declared.Queue.{Queue}
 use Rattle.queue.specs.Waiting.{QueueInRange}
 use Rattle.queue_drain.proofs.Ruled.{drained-in, drain-kept}
 use Rattle.chip.specs.declared.Core.{Core}
-use Rattle.clocking_ticks.specs.declared.Ran.{Ran}
-use Rattle.clocking_ticks.specs.Ticks.{oneMore, ticking, ticked}
-use Rattle.clocks.specs.Range.{ClocksRun}
+use Rattle.clocking_ticks.specs.Ticks.{ticked}
 use Rattle.clocking_word.specs.Word.{endOf, drained, ranOf, mixedOf, Word, wordOf}
 use Rattle.chip.specs.Range.{CoreInRange}
 use Rattle.clocking_ticks.proofs.Adding.{Adds, ticked-adds}

@@ -3,8 +3,7 @@ use mathlib.Core.Bool.{Bool, true, false, not}
 use mathlib.Core.Path.{_≡_, refl, sym, ap, _∙_}
 use mathlib.Core.List.{List}
 use Prim.Native.Nat.{ℕ}
-use lib.Dec.{eqb}
-use Rattle.laws.proofs.Tests.{on-eq, on-ne, on-no, on-yes, on-true}
+use Rattle.laws.proofs.Tests.{on-eq, on-ne, on-no, on-yes}
 use Rattle.refusals.specs.Numbers.{lineNotOfForm, outOfRange}
 use Rattle.dump_lines.specs.OneLine.{isFrame}
 use Rattle.chip.specs.declared.Chip.{Chip}

@@ -1,6 +1,6 @@
 -- A checked dump plays: no frame of it is refused, and each gives its words. Assumes nothing.
 use mathlib.Core.Bool.{true}
-use mathlib.Core.Path.{_≡_, refl, sym, ap, _∙_}
+use mathlib.Core.Path.{_≡_, refl, ap, _∙_}
 use mathlib.Core.List.{List}
 use Prim.Native.Nat.{ℕ, zero, suc, _+_, _*_, _^_, _≤_, _<_}
 use native.Mathlib.Nat.{mul-le-mul}
@@ -9,16 +9,14 @@ use borrow.Author.Tests.{le-ltb, lt-leb, ne-eqb}
 use lib.Dec.{eqb}
 use lib.ListN.{length}
 use Rattle.laws.proofs.Tests.{by-cond}
-use Rattle.text_lines.specs.Bytes.{bytes}
-use Rattle.text_lines.specs.Lines.{lineAt, valueAt}
+use Rattle.text_lines.specs.Lines.{lineAt}
 use Rattle.dump_lines.specs.OneLine.{frameAt, isFrame}
 use Rattle.dump.specs.Checked.{verdictOf}
-use Rattle.dump.proofs.Accepted.{placeFrom, Laid, accepted-laid}
+use Rattle.dump.proofs.Accepted.{placeFrom, accepted-laid}
 use Rattle.registers.proofs.InRange.{applied-in}
 use Rattle.chip.specs.declared.Chip.{Chip}
 use Rattle.clocking_word.specs.Word.{wordOf}
-use Rattle.clocking_block.specs.Block.{afterOne, afterWords, wordsOf}
-use Rattle.chip.specs.Range.{chipIn}
+use Rattle.clocking_block.specs.Block.{afterOne, afterWords}
 use Rattle.chip.proofs.InRange.{InRange, passes, core-runs}
 use Rattle.clocks.specs.Clocks.{clocksNo}
 use Rattle.chip.specs.Clocks.{clocksOf}

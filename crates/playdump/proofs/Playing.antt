@@ -1,7 +1,7 @@
 -- The frames of a checked dump, one after the other: what `play_frame` gives, and `play_frames`' invariant. Assumes nothing.
-use mathlib.Core.Path.{_≡_, refl, ap, _∙_}
+use mathlib.Core.Path.{_≡_, ap, _∙_}
 use mathlib.Core.List.{List}
-use Prim.Native.Nat.{ℕ, suc, _+_, _*_, _^_, _≤_, _<_}
+use Prim.Native.Nat.{ℕ, _+_, _*_, _^_, _≤_, _<_}
 use native.Mathlib.Numerals.{add-one}
 use native.Mathlib.Nat.{mul-le-mul}
 use native.Mathlib.Omega.{arith}
@@ -17,7 +17,7 @@ use Rattle.answers.specs.declared.Answered.{Answered}
 use Rattle.answers.specs.declared.Blocked.{Blocked}
 use Rattle.calls_making.specs.Making.{withClocks}
 use Rattle.dump_frames.specs.Frame.{framePlayed, frameBuffer}
-use Rattle.dump_played.specs.Whole.{framePlace, valueOf, chipBefore, frameWords}
+use Rattle.dump_played.specs.Whole.{framePlace, chipBefore, frameWords}
 use Rattle.dump_played.proofs.Whole.{leaves, fills}
 
 -- where frame f stands, and the chip before it

@@ -2,7 +2,7 @@
 use chip::Chip;
 use dump::Verdict;
 ghost use mathlib.Core.Path.{_≡_};
-ghost use Prim.Native.Nat.{_+_, _<_, _≤_};
+ghost use Prim.Native.Nat.{_+_, _<_};
 ghost use lib.ListN.{length};
 ghost use Rattle.dump.specs.Checked.{verdictOf};
 ghost use Rattle.dump_played.specs.Whole.{chipBefore, frameWords, framePlace};

@@ -1,7 +1,6 @@
 // The dump player: a dump on standard input, its words on standard output. 01, "The dump player".
 mod frames_out;
 
-use dump::Verdict;
 use dump_output::Text;
 
 // One byte past the longest dump is enough to know that it is too long.

@@ -8,7 +8,6 @@ use Rattle.registers.specs.declared.Voice.{Voice}
 use Rattle.registers.specs.Registers.{applyRegister}
 use Rattle.queue.specs.declared.Write.{Write}
 use Rattle.queue.specs.declared.Queue.{Queue}
-use Rattle.queue_drain.specs.declared.Drained.{Drained}
 use Rattle.queue.specs.Waiting.{writesFrom, waiting, due, dropped, ring, QueueInRange}
 use Rattle.registers.specs.Writes.{appliedInOrder}
 use Rattle.queue_flush.specs.Applied.{registerWrites}

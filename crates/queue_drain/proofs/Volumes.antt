@@ -13,7 +13,7 @@ use Rattle.queue_drain.specs.declared.Drained.{Drained}
 use Rattle.queue_drain.specs.declared.Stored.{Stored}
 use Rattle.queue.specs.Waiting.{QueueInRange, ring, waiting}
 use Rattle.queue_drain.specs.Drain.{AfterDrain, Drains, drain}
-use Rattle.queue_drain.specs.Volumes.{Stores, ringLeft, withBytes}
+use Rattle.queue_drain.specs.Volumes.{Stores, withBytes}
 use Rattle.queue_drain.proofs.Draining.{Draining, draining-start, draining-on, draining-late, draining-end}
 use Rattle.queue.proofs.Laws.{dropped-kept}
 use Rattle.queue_drain.proofs.Ruled.{waiting-drain}

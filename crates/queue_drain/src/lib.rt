@@ -1,5 +1,4 @@
 // What is due of the waiting writes, applied. 01, "One tick, one word".
-ghost use mathlib.Core.Path.{_≡_};
 ghost use Rattle.queue.specs.Waiting.{ring, QueueInRange};
 ghost use Rattle.queue_drain.specs.Drain.{Drains};
 ghost use Rattle.queue_drain.specs.Volumes.{Stores};

@@ -3,7 +3,7 @@ ghost use mathlib.Core.Path.{_≡_};
 ghost use mathlib.Core.Bool.{true};
 ghost use Prim.Native.Nat.{_+_, _*_, _<_};
 ghost use lib.ListN.{length};
-ghost use Rattle.text_fields.specs.Fields.{allHex, decimalOf, digits, hexByte, hexValue, needless};
+ghost use Rattle.text_fields.specs.Fields.{allHex, decimalOf, hexByte, hexValue, needless};
 
 pub struct Number {
     pub bad: bool,

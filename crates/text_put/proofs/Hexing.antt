@@ -1,9 +1,9 @@
 -- A number's hex digits put into a buffer, the last first: `put_hex`' invariant and its moves. Assumes nothing.
-use mathlib.Core.Path.{_≡_, refl, sym, ap, _∙_}
+use mathlib.Core.Path.{_≡_, refl, sym, _∙_}
 use mathlib.Core.List.{List, [], _∷_, _++_, append-assoc, append-nil}
 use Prim.Native.Nat.{ℕ, zero, suc, _+_, _-_, _/_, _%_, _≤_, _<_}
 use native.Mathlib.Omega.{arith}
-use lib.ListN.{length, take, drop, getD, set, length-append, length-set}
+use lib.ListN.{length, take, drop, getD, set, length-set}
 use lib.Seq.{take-suc, length-take-le, set-append-seam}
 use Rattle.io.specs.Digits.{digits, glyph}
 use Rattle.text_put.specs.Text.{hexText, overlaid}

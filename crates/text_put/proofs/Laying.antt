@@ -1,10 +1,10 @@
 -- Bytes laid over a buffer, and more laid after them. Assumes nothing.
-use mathlib.Core.Path.{_≡_, refl, sym, ap, _∙_}
+use mathlib.Core.Path.{_≡_, ap, _∙_}
 use mathlib.Core.List.{List, [], _++_, append-assoc}
 use Prim.Native.Nat.{ℕ, _+_, _≤_, _<_}
 use native.Mathlib.Omega.{arith}
 use borrow.Author.Tests.{le-leb, lt-leb}
-use lib.ListN.{length, take, drop, length-append, length-drop}
+use lib.ListN.{length, take, drop, length-append}
 use lib.Seq.{paste, length-take-le, take-length, take-at, drop-append-add, drop-drop, paste-zero, length-paste}
 use Rattle.text_put.specs.Text.{overlaid, laid, placeAfter}
 

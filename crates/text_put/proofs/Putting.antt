@@ -1,10 +1,10 @@
 -- A number put into a buffer byte after byte: `put_number`'s invariant and its moves. Assumes nothing.
 use mathlib.Core.Path.{_≡_, refl, sym, ap, _∙_}
-use mathlib.Core.List.{List, [], _∷_, _++_}
+use mathlib.Core.List.{List, [], _∷_}
 use Prim.Native.Nat.{ℕ, suc, _+_, _-_, _^_, _≤_, _<_}
 use native.Mathlib.Numerals.{add-one}
 use native.Mathlib.Omega.{arith}
-use lib.ListN.{length, take, drop, getD, set, length-append, length-set, List·getD-append}
+use lib.ListN.{length, take, getD, set, length-append, length-set, List·getD-append}
 use lib.Seq.{paste, paste-zero, paste-suc, getD-take, getD-at}
 use Rattle.io.specs.Digits.{Fewest, digits}
 use Rattle.text_put.specs.Text.{decimalText, numberText, overlaid, laid, placeAfter}

@@ -1,7 +1,6 @@
 -- `chip::bytes_in` meets its contract: the invariant and its steps are laws of `proofs/Bytes.antt`. Assumes nothing.
 use Prim.Native.Nat.{_-_}
 use native.Mathlib.Omega.{arith}
-use borrow.Author.Needs.{needs}
 use Rattle.chip.proofs.Bytes.{Testing, testing-start, testing-on, testing-wide, testing-end}
 use Rattle.chip.proofs.bytes_in.Statement.{statement}
 use Rattle.chip.proofs.bytes_in.Tie as tie

@@ -2,7 +2,6 @@
 use mathlib.Core.Path.{refl}
 use Prim.Native.Nat.{_-_}
 use native.Mathlib.Omega.{arith}
-use borrow.Author.Needs.{needs}
 use Rattle.dump_frames.proofs.Loading.{Holding, holding-start, holding-on, holding-ends, frame-hex, frame-room}
 use Rattle.dump_frames.proofs.registers_of.Statement.{statement}
 use Rattle.dump_frames.proofs.registers_of.Tie as tie
