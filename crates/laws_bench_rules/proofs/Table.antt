@@ -6,7 +6,7 @@ use Rattle.text_lines.specs.Lines.{span, lineAt, startsWith, valueAt}
 use Rattle.dump_lines.specs.OneLine.{lineEntryAt, masterLineNo, rateLineNo, wordsLineNo, framesLineNo, isFrame, frameAt}
 use Rattle.dump.specs.Checked.{framesFrom, sized, verdictOf}
 use Rattle.envelope_table.specs.Shapes.{shapeEntry, envelopeEntry}
-use Rattle.tone.specs.Tone.{toneSet, toneTick}
+use Rattle.tone.specs.Tone.{toneSet, toneStep, toneTick}
 use Rattle.noise.specs.Noise.{registerStep, outputBy, noiseTick}
 use Rattle.envelope.specs.Envelope.{nextPosition, envelopeTick, rowPlace, envelopeLevel}
 use Rattle.generators.specs.Generators.{tick, edgesOf, toneAt, putTone, tonesSet}
@@ -43,7 +43,7 @@ use Rattle.laws_bench_rules.specs.Setups.{ticks, shape8, drumAlone, rese
 use Rattle.laws_bench_rules.specs.Table.{Table}
 
 pub table : Table
-unfolding ticks shape8 drumAlone resetAfter31 needless digits decimalOf hexValue allHex hexByte span lineAt startsWith valueAt lineEntryAt masterLineNo rateLineNo wordsLineNo framesLineNo isFrame frameAt framesFrom sized verdictOf shapeEntry envelopeEntry toneSet toneTick registerStep outputBy noiseTick nextPosition envelopeTick rowPlace envelopeLevel tick edgesOf toneAt putTone tonesSet powerOnEdges generatorsReset gatesFrom gateOf drumOut heard sounded levelUsed gatedLevel loudnessOf channelAt putChannel setMute setDrum mixed pairAt tonePeriodSet noisePeriodSet gatesSet envelopePeriodSet shapeSet voiceSet masked applyRegister registersFrom voiceReset writesFrom waiting due appliedInOrder registerWrites drain queueIn ticking ticked drained ranOf mixedOf wordOf afterWords ticksOf wordsOf clocksNo clocksIn bytesIn toneIn allOrNone noiseIn envelopeIn generatorsIn gatesIn voiceIn coreIn chipIn madeOf fresh withClocks resetOf resetCall writeRegister readRegister setChannelMute setDrumSampleOverride blockNumber blocked blockBuffer sampled frameWrites frameChip framePlace chipBefore frameWords wordsIn spelt linesOf totalText printed mul div ofInt
+unfolding ticks shape8 drumAlone resetAfter31 needless digits decimalOf hexValue allHex hexByte span lineAt startsWith valueAt lineEntryAt masterLineNo rateLineNo wordsLineNo framesLineNo isFrame frameAt framesFrom sized verdictOf shapeEntry envelopeEntry toneSet toneStep toneTick registerStep outputBy noiseTick nextPosition envelopeTick rowPlace envelopeLevel tick edgesOf toneAt putTone tonesSet powerOnEdges generatorsReset gatesFrom gateOf drumOut heard sounded levelUsed gatedLevel loudnessOf channelAt putChannel setMute setDrum mixed pairAt tonePeriodSet noisePeriodSet gatesSet envelopePeriodSet shapeSet voiceSet masked applyRegister registersFrom voiceReset writesFrom waiting due appliedInOrder registerWrites drain queueIn ticking ticked drained ranOf mixedOf wordOf afterWords ticksOf wordsOf clocksNo clocksIn bytesIn toneIn allOrNone noiseIn envelopeIn generatorsIn gatesIn voiceIn coreIn chipIn madeOf fresh withClocks resetOf resetCall writeRegister readRegister setChannelMute setDrumSampleOverride blockNumber blocked blockBuffer sampled frameWrites frameChip framePlace chipBefore frameWords wordsIn spelt linesOf totalText printed mul div ofInt
 table =
     record {
       seed = refl;

@@ -35,7 +35,7 @@ use Rattle.calls_words.specs.Blocks.{blockNo, blocked, sampled}
 use Rattle.laws_promises.specs.History
 use Rattle.laws_promises.specs.History.{Call, answers, entries, Ledger, accepts, restarts, renders, restartIn, enters, isAccepted, entered}
 use Rattle.laws_promises.specs.Demand.{noiseOf, FromZero}
-use Rattle.laws_promises.proofs.Sounds.{neither, Leaves, apply-leaves, all-leave, loaded-leaves, irq-leaves, leaves-agrees, leaves-circles}
+use Rattle.laws_promises.proofs.Sounds.{neither, Leaves, apply-leaves, all-leave, in-order-leaves, irq-leaves, leaves-agrees, leaves-circles}
 
 -- no word, and nothing applied from the queue
 pub record Still (c d : Chip) (l m : Ledger) : Type 0 where
@@ -175,7 +175,7 @@ did : (x : Call) (c : Chip) (l : Ledger) → InRange c → Comes x c l (enters x
 unfolding answers enters resetCall writeRegister loadRegisters writePort writePortImmediate setCpuCycle syncSampleCycle flushPendingWrites setTimerIrqState triggerEnvelope setChannelMute setDrumSampleOverride sampled
 did History.reset c l h = tested _ c l _ _ (begins refl refl refl)
 did (History.write-register register value) c l h = tested _ c l _ _ (voiced _ c l (apply-leaves register value (c .core .voice)))
-did (History.load-registers bytes) c l h = tested _ c l _ _ (voiced _ c l (loaded-leaves 14 0 bytes (c .core .voice)))
+did (History.load-registers bytes) c l h = tested _ c l _ _ (voiced _ c l (in-order-leaves _ (c .core .voice)))
 did (History.write-port port value) c l h = tested _ c l _ _ (ported _ c l (bit1Clear port) value h)
 did (History.write-port-immediate port value) c l h = tested _ c l _ _ (immediate _ c l (bit1Clear port) value)
 did (History.set-cpu-cycle cycle) c l h = tested _ c l _ _ (aside _ c l (withTimes cycle (c .core .start) c) refl refl refl refl)

@@ -7,7 +7,6 @@ use Prim.Native.Nat.{ℕ, zero, suc, _+_, _*_, _/_, zero-le}
 use borrow.Author.Tests.{eq-eqb, le-leb}
 use lib.Dec.{eqb}
 use lib.IntN.{ℤ, pos, negsuc}
-use lib.ListN.{getD}
 use lib.Signed.{leZ, ltZ}
 use Rattle.laws.proofs.Tests.{by-cond, by-eq, by-le}
 use Rattle.noise.specs.declared.Noise.{Noise}
@@ -25,7 +24,7 @@ use Rattle.generators.proofs.InRange.{tick-in}
 use Rattle.gates.specs.declared.Gates.{Gates}
 use Rattle.registers.specs.declared.Voice.{Voice}
 use Rattle.registers.specs.Registers.{pairAt, tonePeriodSet, noisePeriodSet, gatesSet, envelopePeriodSet, shapeSet, voiceSet, applyRegister}
-use Rattle.registers.specs.Writes.{loadedFrom, appliedInOrder}
+use Rattle.registers.specs.Writes.{RegisterWrite, appliedInOrder}
 use Rattle.all_registers.specs.Reset.{voiceReset}
 use Rattle.queue.specs.declared.Write.{Write}
 use Rattle.queue_flush.specs.Applied.{applyAll, registerWrites}
@@ -103,10 +102,10 @@ unfolding appliedInOrder registerWrites
 all-leave [] v = record { register = refl; output = refl; position = λ _. refl }
 all-leave (w ∷ l) v = leaves-both (apply-leaves (w .register) (w .value) v) (all-leave l _)
 
-pub loaded-leaves : (n r : ℕ) (bytes : List ℕ) (v : Voice) → Leaves true v (loadedFrom n r bytes v)
-unfolding loadedFrom
-loaded-leaves zero r bytes v = record { register = refl; output = refl; position = λ _. refl }
-loaded-leaves (suc n) r bytes v = leaves-some (apply-leaves r (getD bytes r 0) v) (loaded-leaves n (r + 1) bytes _)
+pub in-order-leaves : (ws : List RegisterWrite) (v : Voice) → Leaves true v (appliedInOrder ws v)
+unfolding appliedInOrder
+in-order-leaves [] v = record { register = refl; output = refl; position = λ _. refl }
+in-order-leaves (w ∷ ws) v = leaves-some (apply-leaves (w .register) (w .value) v) (in-order-leaves ws _)
 
 pub irq-leaves : (on : Bool) (v : Voice) → Leaves false v (irqSet on v)
 unfolding irqSet tonesReleased
