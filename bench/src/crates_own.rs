@@ -32,7 +32,7 @@ fn loaded(play: &Play) -> Ym2149 {
     chip
 }
 
-/// As `with_writes` of `crates/exports`.
+/// As `with_writes` of `crates/c_interface`.
 fn filled(play: &Play) -> Ym2149 {
     let mut chip = loaded(play);
     for place in 0..RING as u64 {

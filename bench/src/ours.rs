@@ -1,4 +1,4 @@
-//! Our side: the exported functions of `crates/exports`.
+//! Our side: the exported functions of `crates/c_interface`.
 
 use crate::{Load, MASTER, Play, timed};
 

@@ -1,4 +1,4 @@
-// For C and Rust to link (`rt staticlib exports`): registers played on a new chip into a lent buffer. Refused clocks play a default chip.
+// For C and Rust to link (`rt staticlib c_interface`): registers played on a new chip into a lent buffer. Refused clocks play a default chip.
 ghost use mathlib.Core.Path.{_≡_};
 ghost use lib.ListN.{length};
 ghost use Rattle.c_interface.specs.Exports.{blockTicks, blockWords, loadedChip, playedTicks, playedWords, queuedChip, repeatTicks, repeatWords, writeQueued};

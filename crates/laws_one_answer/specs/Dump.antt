@@ -9,9 +9,17 @@ use Rattle.dump_reader.proofs.reader
 use Rattle.dump_reader.proofs.next_line as next-line
 use Rattle.dump.proofs.check
 use Rattle.dump_lines.proofs.is_frame as is-frame
+use Rattle.dump_lines.proofs.line_entry_at as line-entry-at
+use Rattle.dump_lines.proofs.master_line_no as master-line-no
+use Rattle.dump_lines.proofs.rate_line_no as rate-line-no
+use Rattle.dump_lines.proofs.words_line_no as words-line-no
+use Rattle.dump_lines.proofs.frames_line_no as frames-line-no
+use Rattle.dump_lines.proofs.frame_at as frame-at
 use Rattle.dump_frames.proofs.play_frame as play-frame
 use Rattle.text_put.proofs.put_bytes as put-bytes
 use Rattle.text_put.proofs.put_number as put-number
+use Rattle.text_put.proofs.put_decimal as put-decimal
+use Rattle.text_put.proofs.put_hex as put-hex
 use Rattle.dump_words.proofs.put_words as put-words
 use Rattle.dump_output.proofs.refusal
 use Rattle.dump_output.proofs.total
@@ -31,9 +39,17 @@ pub record Played : Type 2 where
   pub next-line : Settles next-line.ended (λ M. next-line.clauses)
   pub check : Settles check.ended (λ M. check.clauses)
   pub is-frame : Settles is-frame.ended (λ M. is-frame.clauses)
+  pub line-entry-at : Settles line-entry-at.ended (λ M. line-entry-at.clauses)
+  pub master-line-no : Settles master-line-no.ended (λ M. master-line-no.clauses)
+  pub rate-line-no : Settles rate-line-no.ended (λ M. rate-line-no.clauses)
+  pub words-line-no : Settles words-line-no.ended (λ M. words-line-no.clauses)
+  pub frames-line-no : Settles frames-line-no.ended (λ M. frames-line-no.clauses)
+  pub frame-at : Settles frame-at.ended (λ M. frame-at.clauses)
   pub play-frame : Settles play-frame.ended (λ M. play-frame.clauses)
   pub put-bytes : Settles put-bytes.ended (λ M. put-bytes.clauses)
   pub put-number : Settles put-number.ended (λ M. put-number.clauses)
+  pub put-decimal : Settles put-decimal.ended (λ M. put-decimal.clauses)
+  pub put-hex : Settles put-hex.ended (λ M. put-hex.clauses)
   pub put-words : Settles put-words.ended (λ M. put-words.clauses)
   pub refusal : Settles refusal.ended (λ M. refusal.clauses)
   pub total : Settles total.ended (λ M. total.clauses)

@@ -12,6 +12,7 @@ use Rattle.tone.proofs.Tone.set_period as tone-set-period
 use Rattle.tone.proofs.Tone.is_half_amplitude as tone-is-half-amplitude
 use Rattle.tone.proofs.Tone.apply_pending_reset as tone-apply-pending-reset
 use Rattle.tone.proofs.Tone.tick as tone-tick
+use Rattle.tone.proofs.tone_step as tone-step
 use Rattle.tone.proofs.Tone.reset as tone-reset
 use Rattle.noise.proofs.Noise.set_period as noise-set-period
 use Rattle.noise.proofs.Noise.tick as noise-tick
@@ -40,6 +41,8 @@ use Rattle.clocking_generators.proofs.Turning.generators as turning-generators
 use Rattle.gates.proofs.Gates.from_register as gates-from-register
 use Rattle.gates.proofs.Gates.gate as gates-gate
 use Rattle.levels.proofs.level_used as level-used
+use Rattle.drums.proofs.drum_out as drum-out
+use Rattle.levels.proofs.loudness
 use Rattle.levels.proofs.gated_level as gated-level
 use Rattle.channel.proofs.Channel.new as channel-new
 use Rattle.channel.proofs.Channel.with_mute as channel-with-mute
@@ -67,6 +70,8 @@ use Rattle.clocking_ticks.proofs.run_ticks as run-ticks
 use Rattle.clocking_word.proofs.word
 use Rattle.clocking_block.proofs.render
 use Rattle.clocks.proofs.clocks_no as clocks-no
+use Rattle.clocks.proofs.master_no as master-no
+use Rattle.clocks.proofs.rate_no as rate-no
 use Rattle.chip.proofs.clocks_of as clocks-of
 use Rattle.chip.proofs.in_range as in-range
 use Rattle.answers.proofs.accepted
@@ -91,6 +96,7 @@ pub record Parts : Type 2 where
   pub tone-is-half-amplitude : Settles tone-is-half-amplitude.ended (λ M. tone-is-half-amplitude.clauses)
   pub tone-apply-pending-reset : Settles tone-apply-pending-reset.ended (λ M. tone-apply-pending-reset.clauses)
   pub tone-tick : Settles tone-tick.ended (λ M. tone-tick.clauses)
+  pub tone-step : Settles tone-step.ended (λ M. tone-step.clauses)
   pub tone-reset : Settles tone-reset.ended (λ M. tone-reset.clauses)
   pub noise-set-period : Settles noise-set-period.ended (λ M. noise-set-period.clauses)
   pub noise-tick : Settles noise-tick.ended (λ M. noise-tick.clauses)
@@ -119,6 +125,8 @@ pub record Parts : Type 2 where
   pub gates-from-register : Settles gates-from-register.ended (λ M. gates-from-register.clauses)
   pub gates-gate : Settles gates-gate.ended (λ M. gates-gate.clauses)
   pub level-used : Settles level-used.ended (λ M. level-used.clauses)
+  pub drum-out : Settles drum-out.ended (λ M. drum-out.clauses)
+  pub loudness : Settles loudness.ended (λ M. loudness.clauses)
   pub gated-level : Settles gated-level.ended (λ M. gated-level.clauses)
   pub channel-new : Settles channel-new.ended (λ M. channel-new.clauses)
   pub channel-with-mute : Settles channel-with-mute.ended (λ M. channel-with-mute.clauses)
@@ -146,6 +154,8 @@ pub record Parts : Type 2 where
   pub word : Settles word.ended (λ M. word.clauses)
   pub render : Settles render.ended (λ M. render.clauses)
   pub clocks-no : Settles clocks-no.ended (λ M. clocks-no.clauses)
+  pub master-no : Settles master-no.ended (λ M. master-no.clauses)
+  pub rate-no : Settles rate-no.ended (λ M. rate-no.clauses)
   pub clocks-of : Settles clocks-of.ended (λ M. clocks-of.clauses)
   pub in-range : Settles in-range.ended (λ M. in-range.clauses)
   pub accepted : Settles accepted.ended (λ M. accepted.clauses)

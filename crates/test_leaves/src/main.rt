@@ -1,4 +1,4 @@
-// Every public call of tables, tone, noise, envelope, generators, gates, channel and mixer, on ordinary and extreme values.
+// The public calls of the tables, generators and mixer of the crate, on ordinary and extreme values.
 //
 // What it must write, in `stdout`, comes from the crate's own tables.rs, generators.rs and mixer.rs, run:
 // `oracle/leaves` prints it again.
