@@ -1,67 +1,53 @@
--- The frames, line after line: `all_frames`' invariant and its moves. Assumes nothing.
-use mathlib.Core.Bool.{Bool, true, false}
-use mathlib.Core.Path.{_≡_, refl, sym, _∙_}
+-- What was read of the frames' lines tells the verdict: a law for each of `all_frames`' returns. Assumes nothing.
+use mathlib.Core.Bool.{cond}
+use mathlib.Core.Path.{_≡_, sym, _∙_, ap}
 use mathlib.Core.List.{List}
 use Prim.Native.Nat.{ℕ, zero, suc, _+_, _≤_, _<_}
 use native.Mathlib.Omega.{arith}
 use borrow.Author.Tests.{lt-ltb, le-ltb}
+use lib.Dec.{ltb}
 use lib.ListN.{length}
+use Rattle.laws.proofs.Tests.{by-cond}
 use Rattle.refusals.specs.Numbers.{lineNotOfForm, bytesAfterTheEnd}
 use Rattle.text_lines.specs.Lines.{lineAt}
-use Rattle.text_lines.specs.declared.Line.{Line}
 use Rattle.dump_lines.specs.OneLine.{frameAt}
 use Rattle.dump.specs.Checked.{refusedAt, framesFrom}
+use Rattle.dump_body.specs.Frames.{framesRead}
+use Rattle.dump_body.specs.declared.FramesRead.{FramesRead}
 use Rattle.dump.specs.declared.Verdict.{Verdict}
 
-module _ (t : List ℕ) (good : Verdict) (k line at : ℕ) where
-  pub frames-on : frameAt t at ≡ true → framesFrom t good (suc k) line at ≡ framesFrom t good k (line + 1) (lineAt t at .next)
-  unfolding framesFrom
-  frames-on e = rw e
+module _ (t : List ℕ) (good : Verdict) (n : ℕ) where
+  -- the verdict on n lines, of which the first `count` have their form; the last one read ends at p
+  abbrev told : ℕ → ℕ → Verdict
+  told count p = cond (ltb count n) (refusedAt lineNotOfForm (5 + count)) (cond (ltb p (length t)) (refusedAt bytesAfterTheEnd (5 + n)) good)
 
-  pub frames-bad : frameAt t at ≡ false → framesFrom t good (suc k) line at ≡ refusedAt lineNotOfForm line
-  unfolding framesFrom
-  frames-bad e = rw e
+  -- i lines are read, and k are left
+  tells : (k i p : ℕ) → i + k ≡ n → framesFrom t good k (5 + i) p ≡ told (i + framesRead t k p .count) (framesRead t k p .at)
+  unfolding framesFrom framesRead
+  tells zero i p e =
+      let s : i ≡ n = omega (arith, e) in
+      let z : n + 0 ≡ n = omega arith in
+      rw (s, z, le-ltb n n (omega arith))
+  tells (suc k) i p e =
+      let next = lineAt t p .next in
+      let more = framesRead t k next in
+      let s : 5 + i + 1 ≡ 5 + (i + 1) = omega arith in
+      let z : i + 0 ≡ i = omega arith in
+      let a : i + 1 + more .count ≡ i + (1 + more .count) = omega arith in
+      by-cond (λ (v : Verdict). v ≡ told (i + framesRead t (suc k) p .count) (framesRead t (suc k) p .at)) (frameAt t p) _ _
+      (λ g. rw (g, s) (tells k (i + 1) next (omega (arith, e)) ∙ ap (λ (m : ℕ). told m (more .at)) a)) (λ g. rw (g, z, lt-ltb i n (omega (arith, e))))
 
--- what is left to check gives the whole
-pub record Framing (t : List ℕ) (good : Verdict) (frames body at f : ℕ) : Type 0 where
-  pub left : ℕ
-  pub count : f + left ≡ frames
-  pub same : framesFrom t good left (5 + f) at ≡ framesFrom t good frames 5 body
+module _ (t : List ℕ) (good : Verdict) (frames body : ℕ) {r : FramesRead} (q : r ≡ framesRead t frames body) where
+  whole : told t good frames (r .count) (r .at) ≡ framesFrom t good frames 5 body
+  whole =
+      let z : framesRead t frames body .count ≡ 0 + framesRead t frames body .count = omega arith in
+      rw q (ap (λ (m : ℕ). told t good frames m (framesRead t frames body .at)) z ∙ sym (tells t good frames frames 0 body (omega arith)))
 
-pub framing-start : {t : List ℕ} {good : Verdict} {frames body : ℕ} → Framing t good frames body body 0
-framing-start {t} {good} {frames} {body} = record { left = frames; count = omega arith; same = refl }
+  pub frame-bad : r .count < frames → {v : Verdict} → v ≡ refusedAt lineNotOfForm (5 + r .count) → v ≡ framesFrom t good frames 5 body
+  frame-bad h p = p ∙ (rw (lt-ltb (r .count) frames h) at whole)
 
-more : (f left n : ℕ) → f < n → f + left ≡ n → (k : ℕ) × (left ≡ suc k)
-more f zero n h e = absurd (omega arith)
-more f (suc k) n h e = (k, refl)
+  pub frames-over : frames ≤ r .count → r .at < length t → {v : Verdict} → v ≡ refusedAt bytesAfterTheEnd (5 + frames) → v ≡ framesFrom t good frames 5 body
+  frames-over h o p = p ∙ (rw (le-ltb (r .count) frames h, lt-ltb (r .at) (length t) o) at whole)
 
-module _ {t : List ℕ} {good : Verdict} {frames body at f : ℕ} (m : Framing t good frames body at f) where
-  pub framing-on : f < frames → {r : Bool} → r ≡ frameAt t at → r ≡ true → {l : Line} → l ≡ lineAt t at → Framing t good frames body (l .next) (f + 1)
-  framing-on h q e p =
-      let (k, z) = more f (m .left) frames h (m .count) in
-      let s : 5 + (f + 1) ≡ 5 + f + 1 = omega arith in
-      record {
-        left = k;
-        count = omega (arith, m .count);
-        same = rw (s, p) (sym (frames-on t good k (5 + f) at (sym q ∙ e)) ∙ (rw z at (m .same)));
-      }
-
-  pub framing-bad : f < frames → {r : Bool} → r ≡ frameAt t at → r ≡ false → {v : Verdict} → v ≡ refusedAt lineNotOfForm (5 + f)
-      → v ≡ framesFrom t good frames 5 body
-  framing-bad h q e p =
-      let (k, z) = more f (m .left) frames h (m .count) in
-      p ∙ sym (frames-bad t good k (5 + f) at (sym q ∙ e)) ∙ (rw z at (m .same))
-
-  last : frames ≤ f → framesFrom t good 0 (5 + frames) at ≡ framesFrom t good frames 5 body
-  last h =
-      let z : m .left ≡ 0 = omega (arith, m .count) in
-      let s : f ≡ frames = omega (arith, m .count) in
-      rw (z, s) at (m .same)
-
-  pub framing-over : frames ≤ f → at < length t → {v : Verdict} → v ≡ refusedAt bytesAfterTheEnd (5 + frames) → v ≡ framesFrom t good frames 5 body
-  unfolding framesFrom
-  framing-over h o p = p ∙ (rw (lt-ltb at (length t) o) at (last h))
-
-  pub framing-ends : frames ≤ f → length t ≤ at → good ≡ framesFrom t good frames 5 body
-  unfolding framesFrom
-  framing-ends h o = rw (le-ltb at (length t) o) at (last h)
+  pub frames-end : frames ≤ r .count → length t ≤ r .at → good ≡ framesFrom t good frames 5 body
+  frames-end h o = rw (le-ltb (r .count) frames h, le-ltb (r .at) (length t) o) at whole

@@ -1,12 +1,14 @@
 // The whole dump, checked line by line. 01, "The dump player".
 ghost use mathlib.Core.Path.{_≡_};
 ghost use Rattle.dump.specs.Checked.{framesFrom, refusedAt, sized, verdictOf};
-use dump_lines::frame_at;
+ghost use Rattle.dump_reader.specs.Header.{firstLines};
 use dump_lines::frames_line_no;
 use dump_lines::line_entry_at;
 use dump_lines::master_line_no;
 use dump_lines::rate_line_no;
 use dump_lines::words_line_no;
+use dump_reader::FirstLines;
+use dump_reader::first_lines;
 
 pub const LONGEST_DUMP: usize = 65_536;
 
@@ -28,29 +30,31 @@ pub fn check(text: &[u8]) -> Verdict
     if text.len() > LONGEST_DUMP {
         return refused(refusals::DUMP_TOO_LONG, 0);
     }
-    let one = line_entry_at(b"master=", text, 0);
+    let lines = first_lines(text);
+    let one = line_entry_at(b"master=", text, lines.one.start);
     let first = master_line_no(one);
     if first > 0 {
         return refused(first, 1);
     }
-    let two = line_entry_at(b"rate=", text, one.next);
+    let two = line_entry_at(b"rate=", text, lines.two.start);
     let second = rate_line_no(one.value, two);
     if second > 0 {
         return refused(second, 2);
     }
-    sizes(text, one.value as u32, two.value as u32, two.next)
+    sizes(text, one.value as u32, two.value as u32, lines)
 }
 
 // Lines 3 and 4, and then the frames.
-fn sizes(text: &[u8], master: u32, rate: u32, at: usize) -> Verdict
-    ensures { λ r. ⌜ r ≡ sized (now (text .entry)) master rate at ⌝ }
+fn sizes(text: &[u8], master: u32, rate: u32, lines: FirstLines) -> Verdict
+    requires { ⌜ lines ≡ firstLines (now text) ⌝ }
+    ensures { λ r. ⌜ r ≡ sized (now (text .entry)) master rate (lines .two .next) ⌝ }
 {
-    let three = line_entry_at(b"words=", text, at);
+    let three = line_entry_at(b"words=", text, lines.three.start);
     let third = words_line_no(three);
     if third > 0 {
         return refused(third, 3);
     }
-    let four = line_entry_at(b"frames=", text, three.next);
+    let four = line_entry_at(b"frames=", text, lines.four.start);
     let fourth = frames_line_no(four);
     if fourth > 0 {
         return refused(fourth, 4);
@@ -62,26 +66,19 @@ fn sizes(text: &[u8], master: u32, rate: u32, at: usize) -> Verdict
         rate: rate,
         words: three.value as u16,
         frames: four.value as u16,
-        body: four.next,
+        body: lines.four.next,
     };
-    all_frames(text, good, four.value as u16, four.next)
+    all_frames(text, good, four.value as u16, lines.four.next)
 }
 
 fn all_frames(text: &[u8], good: Verdict, frames: u16, body: usize) -> Verdict
     ensures { λ r. ⌜ r ≡ framesFrom (now (text .entry)) good frames 5 body ⌝ }
 {
-    let mut at = body;
-    let mut f: u16 = 0;
-    while f < frames {
-        if frame_at(text, at) {
-            let line = text_lines::line_at(text, at);
-            at = line.next;
-            f += 1;
-        } else {
-            return refused(refusals::LINE_NOT_OF_FORM, 5 + f as u32);
-        }
+    let read = dump_body::frames_read(text, body, frames);
+    if read.count < frames {
+        return refused(refusals::LINE_NOT_OF_FORM, 5 + read.count as u32);
     }
-    if at < text.len() {
+    if read.at < text.len() {
         return refused(refusals::BYTES_AFTER_THE_END, 5 + frames as u32);
     }
     good

@@ -1,71 +1,41 @@
--- `dump::all_frames` meets its contract: what is left to check gives the whole (`Framing`). Assumes nothing.
-use Prim.Native.Nat.{_-_}
-use native.Mathlib.Omega.{arith}
+-- `dump::all_frames` meets its contract: what was read of the frames' lines tells the verdict (`Framing`), a law for each return. Assumes nothing.
 use borrow.Author.Needs.{needs}
-use Rattle.dump.proofs.Framing.{Framing, framing-start, framing-on, framing-bad, framing-over, framing-ends}
+use Rattle.dump.proofs.Framing.{frame-bad, frames-over, frames-end}
 use Rattle.dump.proofs.all_frames.Statement.{statement}
 use Rattle.dump.proofs.all_frames.Tie as tie
 
-abbrev Inv-loop : tie.InvT-loop
-Inv-loop text good frames body at₀ f₀ at f = Framing text good frames body at f
+frames-read-requires : tie.Need-frames-read-requires
+frames-read-requires c κs = search needs
 
-abbrev μ-loop : tie.MeasureT-loop
-μ-loop text good frames body at₀ f₀ at f = frames - f
+cast-refused : tie.Need-cast-refused
+cast-refused c = search needs
 
-loop-holds : tie.Need-loop-holds Inv-loop μ-loop
-loop-holds c = framing-start
+add-refused : tie.Need-add-refused
+add-refused c = search needs
 
-frame-at-requires : tie.Need-frame-at-requires Inv-loop μ-loop
-frame-at-requires c κs = search needs
-
-line-at-requires : tie.Need-line-at-requires Inv-loop μ-loop
-line-at-requires c κs = search needs
-
-add-f : tie.Need-add-f Inv-loop μ-loop
-add-f c = omega arith
-
-loop-less : tie.Need-loop-less Inv-loop μ-loop
-loop-less c = omega arith
-
-loop-again : tie.Need-loop-again Inv-loop μ-loop
-loop-again c = search framing-on
-
-cast-refused : tie.Need-cast-refused Inv-loop μ-loop
-cast-refused c = omega arith
-
-add-refused : tie.Need-add-refused Inv-loop μ-loop
-add-refused c = omega arith
-
-refused-requires : tie.Need-refused-requires Inv-loop μ-loop
+refused-requires : tie.Need-refused-requires
 refused-requires c κs = search needs
 
-returns : tie.Need-returns Inv-loop μ-loop
-returns c = search framing-bad
+returns : tie.Need-returns
+returns c = search frame-bad
 
-add-refused-2 : tie.Need-add-refused-2 Inv-loop μ-loop
-add-refused-2 c = omega arith
+add-refused-2 : tie.Need-add-refused-2
+add-refused-2 c = search needs
 
-refused-requires-2 : tie.Need-refused-requires-2 Inv-loop μ-loop
+refused-requires-2 : tie.Need-refused-requires-2
 refused-requires-2 c κs = search needs
 
-returns-2 : tie.Need-returns-2 Inv-loop μ-loop
-returns-2 c = search framing-over
+returns-2 : tie.Need-returns-2
+returns-2 c = search frames-over
 
-returns-3 : tie.Need-returns-3 Inv-loop μ-loop
-returns-3 c = search framing-ends
+returns-3 : tie.Need-returns-3
+returns-3 c = search frames-end
 
 pub all-frames-spec : {M : Type 1} → statement M
 all-frames-spec =
     tie.close
     (tie.spec
-    Inv-loop
-    μ-loop
-    loop-holds
-    frame-at-requires
-    line-at-requires
-    add-f
-    loop-less
-    loop-again
+    frames-read-requires
     cast-refused
     add-refused
     refused-requires

@@ -11,6 +11,9 @@ refused-requires c κs = search needs
 returns : tie.Need-returns
 returns c = search too-long
 
+first-lines-requires : tie.Need-first-lines-requires
+first-lines-requires c κs = search needs
+
 slice-aggregate-line-entry-at : tie.Need-slice-aggregate-line-entry-at
 slice-aggregate-line-entry-at c = search needs
 
@@ -59,6 +62,7 @@ check-spec =
     (tie.spec
     refused-requires
     returns
+    first-lines-requires
     slice-aggregate-line-entry-at
     line-entry-at-requires
     master-line-no-requires
