@@ -1,14 +1,13 @@
 // The whole dump, checked line by line. 01, "The dump player".
 ghost use mathlib.Core.Path.{_≡_};
 ghost use Rattle.dump.specs.Checked.{framesFrom, refusedAt, sized, verdictOf};
-ghost use Rattle.dump_reader.specs.Header.{firstLines};
+ghost use Rattle.dump_header.specs.Entries.{headerOf};
+use dump_header::Header;
+use dump_header::header_of;
 use dump_lines::frames_line_no;
-use dump_lines::line_entry_at;
 use dump_lines::master_line_no;
 use dump_lines::rate_line_no;
 use dump_lines::words_line_no;
-use dump_reader::FirstLines;
-use dump_reader::first_lines;
 
 pub const LONGEST_DUMP: usize = 65_536;
 
@@ -30,31 +29,31 @@ pub fn check(text: &[u8]) -> Verdict
     if text.len() > LONGEST_DUMP {
         return refused(refusals::DUMP_TOO_LONG, 0);
     }
-    let lines = first_lines(text);
-    let one = line_entry_at(b"master=", text, lines.one.start);
+    let header = header_of(text);
+    let one = header.master;
     let first = master_line_no(one);
     if first > 0 {
         return refused(first, 1);
     }
-    let two = line_entry_at(b"rate=", text, lines.two.start);
+    let two = header.rate;
     let second = rate_line_no(one.value, two);
     if second > 0 {
         return refused(second, 2);
     }
-    sizes(text, one.value as u32, two.value as u32, lines)
+    sizes(text, one.value as u32, two.value as u32, header)
 }
 
 // Lines 3 and 4, and then the frames.
-fn sizes(text: &[u8], master: u32, rate: u32, lines: FirstLines) -> Verdict
-    requires { ⌜ lines ≡ firstLines (now text) ⌝ }
-    ensures { λ r. ⌜ r ≡ sized (now (text .entry)) master rate (lines .two .next) ⌝ }
+fn sizes(text: &[u8], master: u32, rate: u32, header: Header) -> Verdict
+    requires { ⌜ header ≡ headerOf (now text) ⌝ }
+    ensures { λ r. ⌜ r ≡ sized (now (text .entry)) master rate (header .rate .next) ⌝ }
 {
-    let three = line_entry_at(b"words=", text, lines.three.start);
+    let three = header.words;
     let third = words_line_no(three);
     if third > 0 {
         return refused(third, 3);
     }
-    let four = line_entry_at(b"frames=", text, lines.four.start);
+    let four = header.frames;
     let fourth = frames_line_no(four);
     if fourth > 0 {
         return refused(fourth, 4);
@@ -66,9 +65,9 @@ fn sizes(text: &[u8], master: u32, rate: u32, lines: FirstLines) -> Verdict
         rate: rate,
         words: three.value as u16,
         frames: four.value as u16,
-        body: lines.four.next,
+        body: four.next,
     };
-    all_frames(text, good, four.value as u16, lines.four.next)
+    all_frames(text, good, four.value as u16, four.next)
 }
 
 fn all_frames(text: &[u8], good: Verdict, frames: u16, body: usize) -> Verdict

@@ -126,12 +126,16 @@ module _ {M : Type 1} (𝓤 : URA M) (H : Heap 𝓤) (A : Atoms 𝓤) (W : Given
   moved : (r : Line) (z : DumpReader) → Said r z → z ≡ onward h
   moved r z e i = record { text = e .1 i; at = (e .2 ∙ ap (λ (y : Line). y .next) (e .0)) i }
 
+  said : (w : Loan) (r : Line) → ent 𝓤 (ensured 𝓤 H A g.ended (g.clauses 𝓤 H A at-mem run) (w .0 ∷ κ, (κ, tt)) (ref w, tt) tt r)
+      (ex 𝓤 (λ (zs : Lasts g.ended (w .0 ∷ κ, (κ, tt)) (ref w, tt)). sep 𝓤 (sem 𝓤 H A (lasts g.ended (w .0 ∷ κ, (κ, tt)) (ref w, tt) zs)) (fact 𝓤 (Said r (zs .0)))))
+  said w r = id⊢ 𝓤 _
+
   pub back : (w : Loan) (u : Val) → ent 𝓤 (sep 𝓤 (NextLine 𝓤 H A at-mem run .post (to w) u) (Kept w))
       (H .⇛ (guard 𝓤 (Is S.the-row (found h) (u ∷ [])) (sep 𝓤 (sem 𝓤 H A (partAt (row κ) fullShare (onward h) l 0)) (A .lft κ q))))
   back w u =
       qed W (raw (NextLine 𝓤 H A at-mem run .post (to w) u) ∷ (‵ (flent (w .0 ∷ κ) (Body (mem (row κ)) l 0 (w .1))) ⊛ raw (Rest 𝓤 H A W (w .0) (PosShare·left q))) ∷ []) ∵ updating ! $
       use1 W (later (some (λ (r : Line). ((‵ (flft (w .0 ∷ κ) (PosShare·left q)) ⊛ ‵ (flft κ (PosShare·right q)) ⊛ ‵ ftrue) ⊛ ‵ (S.the-row .own r (u ∷ []))) ⊛ raw (ensured 𝓤 H A g.ended (g.clauses 𝓤 H A at-mem run) (w .0 ∷ κ, (κ, tt)) (ref w, tt) tt r)))) (id⊢ 𝓤 _) $ await ! tt $ pick ! (λ r.
-      split ! $ move ! (1 ∷ []) $ use1 W (some (λ (zs : Lasts g.ended (w .0 ∷ κ, (κ, tt)) (ref w, tt)). ‵ (lasts g.ended (w .0 ∷ κ, (κ, tt)) (ref w, tt) zs) ⊛ raw (fact 𝓤 (Said r (zs .0))))) (id⊢ 𝓤 _) $ pick ! (λ zs.
+      split ! $ move ! (1 ∷ []) $ use1 W (some (λ (zs : Lasts g.ended (w .0 ∷ κ, (κ, tt)) (ref w, tt)). ‵ (lasts g.ended (w .0 ∷ κ, (κ, tt)) (ref w, tt) zs) ⊛ raw (fact 𝓤 (Said r (zs .0))))) (said w r) $ pick ! (λ zs.
       split ! $ move ! (1 ∷ []) $ heard ! (Said r (zs .0)) (λ e. fsplit ! $ rewrite ! 0 (λ (z : DumpReader). ‵ (fres (w .1) (row κ .coded .code z))) (moved r (zs .0) e) refl $
       -- [the reader's last value; _; the tokens and the line; what was kept]
       move ! (2 ∷ []) $ split ! $ split ! $ move ! (1 ∷ []) $ split ! $ move ! (6 ∷ []) $ split ! $

@@ -7,6 +7,9 @@ use Rattle.text_lines.proofs.line_at as line-at
 use Rattle.text_lines.proofs.value_at as value-at
 use Rattle.dump_reader.proofs.reader
 use Rattle.dump_reader.proofs.next_line as next-line
+use Rattle.dump_reader.proofs.first_lines as first-lines
+use Rattle.dump_header.proofs.header_of as header-of
+use Rattle.dump_body.proofs.frames_read as frames-read
 use Rattle.dump.proofs.check
 use Rattle.dump_lines.proofs.is_frame as is-frame
 use Rattle.dump_lines.proofs.line_entry_at as line-entry-at
@@ -37,6 +40,9 @@ pub record Played : Type 2 where
   pub value-at : SettlesAs value-at.ended (λ M. value-at.clauses) (λ h x. now (x .0))
   pub reader : Settles reader.ended (λ M. reader.clauses)
   pub next-line : Settles next-line.ended (λ M. next-line.clauses)
+  pub first-lines : Settles first-lines.ended (λ M. first-lines.clauses)
+  pub header-of : Settles header-of.ended (λ M. header-of.clauses)
+  pub frames-read : Settles frames-read.ended (λ M. frames-read.clauses)
   pub check : Settles check.ended (λ M. check.clauses)
   pub is-frame : Settles is-frame.ended (λ M. is-frame.clauses)
   pub line-entry-at : Settles line-entry-at.ended (λ M. line-entry-at.clauses)

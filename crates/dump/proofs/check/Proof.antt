@@ -11,14 +11,8 @@ refused-requires c κs = search needs
 returns : tie.Need-returns
 returns c = search too-long
 
-first-lines-requires : tie.Need-first-lines-requires
-first-lines-requires c κs = search needs
-
-slice-aggregate-line-entry-at : tie.Need-slice-aggregate-line-entry-at
-slice-aggregate-line-entry-at c = search needs
-
-line-entry-at-requires : tie.Need-line-entry-at-requires
-line-entry-at-requires c κs = search needs
+header-of-requires : tie.Need-header-of-requires
+header-of-requires c κs = search needs
 
 master-line-no-requires : tie.Need-master-line-no-requires
 master-line-no-requires c κs = search needs
@@ -28,12 +22,6 @@ refused-requires-2 c κs = search needs
 
 returns-2 : tie.Need-returns-2
 returns-2 c = search at-line-1
-
-slice-aggregate-line-entry-at-2 : tie.Need-slice-aggregate-line-entry-at-2
-slice-aggregate-line-entry-at-2 c = search needs
-
-line-entry-at-requires-2 : tie.Need-line-entry-at-requires-2
-line-entry-at-requires-2 c κs = search needs
 
 rate-line-no-requires : tie.Need-rate-line-no-requires
 rate-line-no-requires c κs = search needs
@@ -62,14 +50,10 @@ check-spec =
     (tie.spec
     refused-requires
     returns
-    first-lines-requires
-    slice-aggregate-line-entry-at
-    line-entry-at-requires
+    header-of-requires
     master-line-no-requires
     refused-requires-2
     returns-2
-    slice-aggregate-line-entry-at-2
-    line-entry-at-requires-2
     rate-line-no-requires
     refused-requires-3
     returns-3
