@@ -34,7 +34,7 @@ module _ (t : List ℕ) {lines : FirstLines} (w : lines ≡ firstLines t) where
   unfolding firstLines
   fourth-at = rw w (line-start t (lineAt t (lineAt t (lineAt t 0 .next) .next) .next))
 
-  -- each is the line at its place
+  -- the second and the third are the lines at their places
   pub second-is : lines .two ≡ lineAt t (lineAt t 0 .next)
   unfolding firstLines
   second-is = rw w
@@ -42,7 +42,3 @@ module _ (t : List ℕ) {lines : FirstLines} (w : lines ≡ firstLines t) where
   pub third-is : lines .three ≡ lineAt t (lines .two .next)
   unfolding firstLines
   third-is = rw w
-
-  pub fourth-is : lines .four ≡ lineAt t (lines .three .next)
-  unfolding firstLines
-  fourth-is = rw w
