@@ -65,21 +65,21 @@ calls-run (x ∷ calls) c l p h =
     }
 
 -- a waiting write of any chip in range
-waiting-served : (c : Chip) → InRange c → (i : ℕ) → i < length (waiting (c .queue)) → (later : List Call) → All Plain later
+pub waiting-served : (c : Chip) → InRange c → (i : ℕ) → i < length (waiting (c .queue)) → (later : List Call) → All Plain later
     → Served (waiting (c .queue)) i (ledger later c emptyLedger .words) (waiting (after later c .queue))
 waiting-served c h i k later p = let r = calls-run later c emptyLedger p h in rw (r .all) (course-served i k (r .course))
 
 -- a refused call
-nothing-changes : (c : Chip) (l : Ledger) (x : Call) → (answers x c .no ≡ accepted → ⊥) → (answers x c .chip ≡ c) × (entered x c l ≡ l)
+pub nothing-changes : (c : Chip) (l : Ledger) (x : Call) → (answers x c .no ≡ accepted → ⊥) → (answers x c .chip ≡ c) × (entered x c l ≡ l)
 unfolding entered
 nothing-changes c l x f = (numbered x c .stays f, rw (ne-eqb (answers x c .no) accepted f))
 
 -- the waiting count
-counted : (c : Chip) → InRange c → pendingWriteCount c ≡ record { no = accepted; count = length (waiting (c .queue)) }
+pub counted : (c : Chip) → InRange c → pendingWriteCount c ≡ record { no = accepted; count = length (waiting (c .queue)) }
 unfolding pendingWriteCount
 counted c h = rw (passes h, length-waiting (c .queue))
 
-holds : {master rate : ℕ} {c : Chip} {l : Ledger} → Keeps master rate c l → (l .restarted ≡ false → FromZero c) → Holds master rate c l
+pub holds : {master rate : ℕ} {c : Chip} {l : Ledger} → Keeps master rate c l → (l .restarted ≡ false → FromZero c) → Holds master rate c l
 holds {master} {rate} {c} {l} k z =
     let r = k .range in
     let n = r .voice .generators .noise in

@@ -1,0 +1,167 @@
+-- A frame that is accepted is a load and a block, one that is refused is nothing; so a history with frames in it is one of calls.
+-- Assumes nothing.
+use mathlib.Core.Bool.{Bool, true, false, cond}
+use mathlib.Core.List.{List, [], _++_}
+use mathlib.Core.Path.{_≡_, refl, sym, ap, _∙_}
+use Prim.Native.Nat.{ℕ, _+_}
+use native.Mathlib.Omega.{arith}
+use borrow.Author.Tests.{eq-eqb, ne-eqb}
+use lib.Dec.{eqb}
+use lib.ListN.{length}
+use Rattle.refusals.specs.Numbers.{accepted, lineNotOfForm, outOfRange}
+use Rattle.laws.proofs.Tests.{by-cond, by-eq, by-same}
+use Rattle.dump_lines.specs.OneLine.{isFrame}
+use Rattle.registers.specs.declared.Voice.{Voice}
+use Rattle.registers.specs.Writes.{registersFrom, appliedInOrder, loaded}
+use Rattle.chip.specs.declared.Chip.{Chip}
+use Rattle.chip.specs.Range.{chipIn}
+use Rattle.chip_parts.specs.Parts.{withVoice}
+use Rattle.answers.specs.Answers.{answered}
+use Rattle.answers.specs.declared.Answered.{Answered}
+use Rattle.answers.specs.declared.Blocked.{Blocked}
+use Rattle.calls_registers.specs.Stored.{loadRegisters}
+use Rattle.calls_words.specs.Blocks.{blockRefused, blocked, blockBuffer}
+use Rattle.dump_frames.specs.Frame.{frameWrites, frameChip, keptIf, framePlayed, frameBuffer}
+use Rattle.laws_promises.specs.History.{load-registers, block, answers, after, Ledger, restarts, enters, isAccepted, entered, ledger}
+use Rattle.laws_promises.specs.Demand.{N, T}
+use Rattle.laws_promises.proofs.Handed.{block-adds, block-words}
+use Rattle.laws_histories.specs.Histories.{AllAccepted, values, frameBytes, loadThenRender, frameCalls}
+use Rattle.laws_histories.specs.Claims.{FrameIsCalls}
+
+-- what an accepted frame has passed
+kept-taken : (c : Chip) (b : Blocked) → keptIf c b .answer .no ≡ accepted → b .answer .no ≡ accepted
+kept-taken c b =
+    by-cond (λ (x : Blocked). x .answer .no ≡ accepted → b .answer .no ≡ accepted) (eqb (b .answer .no) accepted) _ _ (λ _ e. e) (λ _ e. e)
+
+record Passed (tested formed : Bool) (b : Blocked) : Type 0 where
+  range : tested ≡ true
+  frame : formed ≡ true
+  block : b .answer .no ≡ accepted
+
+passed : (c : Chip) (b : Blocked) (range frame : Bool)
+    → cond range (cond frame (keptIf c b) (blockRefused lineNotOfForm c)) (blockRefused outOfRange c) .answer .no ≡ accepted
+    → Passed range frame b
+passed c b true true e = record { range = refl; frame = refl; block = kept-taken c b e }
+passed c b true false e = absurd (omega arith)
+passed c b false frame e = absurd (omega arith)
+
+-- loading a frame's bytes is its writes
+loaded-bytes : (value : List ℕ) (v : Voice) → loaded (frameBytes value) v ≡ appliedInOrder (frameWrites value) v
+unfolding frameBytes frameWrites registersFrom
+loaded-bytes value v = refl
+
+-- one call
+block-chip : (out : List ℕ) (c : Chip) → answers (block out) c .chip ≡ blocked (length out) c .chip
+unfolding answers
+block-chip out c = refl
+
+load-enters : (bytes : List ℕ) (c d : Chip) (l : Ledger) → answers (load-registers bytes) c ≡ answered accepted d
+    → entered (load-registers bytes) c l ≡ restarts true l
+unfolding entered enters
+load-enters bytes c d l e = rw (ap (λ (a : Answered). a .no) e)
+
+block-queues-none : (out : List ℕ) (c : Chip) (l : Ledger) → entered (block out) c l .accepted ≡ l .accepted
+unfolding entered enters
+block-queues-none out c l =
+    by-cond (λ (m : Ledger). m .accepted ≡ l .accepted) (isAccepted (answers (block out) c .no)) _ _ (λ _. refl) (λ _. refl)
+
+module _ (value out : List ℕ) (c : Chip) (e : framePlayed value (length out) c .answer .no ≡ accepted) where
+  abbrev d : Chip
+  d = frameChip value c
+
+  was : Passed (chipIn c) (isFrame value) (blocked (length out) d)
+  unfolding framePlayed
+  was = passed c (blocked (length out) d) (chipIn c) (isFrame value) e
+
+  loads : answers (load-registers (frameBytes value)) c ≡ answered accepted d
+  unfolding answers loadRegisters frameChip
+  loads = rw (was .range) (ap (λ (v : Voice). answered accepted (withVoice v c)) (loaded-bytes value (c .core .voice)))
+
+  played : framePlayed value (length out) c ≡ blocked (length out) d
+  unfolding framePlayed
+  played = rw (was .range, was .frame, eq-eqb _ accepted (was .block))
+
+  buffer : frameBuffer value out c ≡ blockBuffer out d
+  unfolding frameBuffer
+  buffer = rw (was .range, was .frame)
+
+  renders-fine : answers (block out) d .no ≡ accepted
+  unfolding answers
+  renders-fine = was .block
+
+  pub frame-after : after (loadThenRender value out) c ≡ framePlayed value (length out) c .chip
+  unfolding after
+  frame-after =
+      ap (λ (a : Answered). answers (block out) (a .chip) .chip) loads ∙ block-chip out d ∙ sym (ap (λ (b : Blocked). b .chip) played)
+
+  pub frame-each : AllAccepted (loadThenRender value out) c
+  frame-each = (ap (λ (a : Answered). a .no) loads, (rw loads renders-fine, tt))
+
+  -- a load restarts the envelope, and enters nothing else
+  frame-ledger : (l : Ledger) → ledger (loadThenRender value out) c l ≡ entered (block out) d (restarts true l)
+  unfolding ledger
+  frame-ledger l = rw (load-enters (frameBytes value) c d l loads, loads)
+
+  pub frame-words : (l : Ledger) → values (ledger (loadThenRender value out) c l .words) ≡ values (l .words) ++ frameBuffer value out c
+  frame-words l = rw (frame-ledger l, buffer) (block-words out d (restarts true l) renders-fine)
+
+  pub frame-counted : (l : Ledger) → N (ledger (loadThenRender value out) c l) ≡ N l + framePlayed value (length out) c .answer .words
+  frame-counted l = rw (frame-ledger l, played) (block-adds out d (restarts true l) .counted)
+
+  pub frame-ran : (l : Ledger) → T (ledger (loadThenRender value out) c l) ≡ T l + framePlayed value (length out) c .answer .ticks
+  frame-ran l = rw (frame-ledger l, played) (block-adds out d (restarts true l) .ran)
+
+  pub frame-queues-none : (l : Ledger) → ledger (loadThenRender value out) c l .accepted ≡ l .accepted
+  frame-queues-none l = rw (frame-ledger l) (block-queues-none out d (restarts true l))
+
+  frame-is : frameCalls value out c ≡ loadThenRender value out
+  unfolding frameCalls
+  frame-is = rw (eq-eqb _ accepted e)
+
+-- a refused frame
+refused-by : (c : Chip) (b : Blocked) (range frame : Bool)
+    → let r = cond range (cond frame (keptIf c b) (blockRefused lineNotOfForm c)) (blockRefused outOfRange c) in
+    (r .answer .no ≡ accepted → ⊥) → r ≡ blockRefused (r .answer .no) c
+refused-by c b true true f =
+    by-eq (λ (x : Blocked). (x .answer .no ≡ accepted → ⊥) → x ≡ blockRefused (x .answer .no) c) (b .answer .no) accepted
+    (λ e g. absurd (g e)) (λ _ _. refl) f
+refused-by c b true false f = refl
+refused-by c b false frame f = refl
+
+module _ (value out : List ℕ) (c : Chip) (f : framePlayed value (length out) c .answer .no ≡ accepted → ⊥) where
+  none-is : frameCalls value out c ≡ []
+  unfolding frameCalls
+  none-is = rw (ne-eqb _ accepted f)
+
+  stays : framePlayed value (length out) c ≡ blockRefused (framePlayed value (length out) c .answer .no) c
+  unfolding framePlayed
+  stays = refused-by c (blocked (length out) (frameChip value c)) (chipIn c) (isFrame value) f
+
+  refused-is-calls : (l : Ledger) → FrameIsCalls value out c l
+  unfolding after ledger
+  refused-is-calls l =
+      record {
+        chip = rw none-is (ap (λ (b : Blocked). b .chip) stays);
+        each = rw none-is tt;
+        counted = rw (none-is, ap (λ (b : Blocked). b .answer .words) stays) (omega arith);
+        ran = rw (none-is, ap (λ (b : Blocked). b .answer .ticks) stays) (omega arith);
+        words = λ e. absurd (f e);
+        refused = λ _. rw none-is;
+        writes = rw none-is;
+      }
+
+pub frame-is-calls : (value out : List ℕ) (c : Chip) (l : Ledger) → FrameIsCalls value out c l
+frame-is-calls value out c l =
+    by-same (framePlayed value (length out) c .answer .no) accepted
+    (λ e.
+    let i = frame-is value out c e in
+    record {
+      chip = rw i (sym (frame-after value out c e));
+      each = rw i (frame-each value out c e);
+      counted = rw i (frame-counted value out c e l);
+      ran = rw i (frame-ran value out c e l);
+      words = λ _. rw i (frame-words value out c e l);
+      refused = λ f. absurd (f e);
+      writes = rw i (frame-queues-none value out c e l);
+    })
+    (λ f. refused-is-calls value out c f l)

@@ -1,0 +1,32 @@
+-- All of `specs/Claims.antt`. Assumes nothing.
+use mathlib.Core.Bool.{true}
+use mathlib.Core.Path.{_≡_}
+use Rattle.chip.specs.declared.Chip.{Chip}
+use Rattle.chip.specs.Range.{chipIn}
+use Rattle.chip.proofs.InRange.{InRange, passed}
+use Rattle.laws_histories.specs.Histories.{OfItsType}
+use Rattle.laws_histories.specs.Claims.{Histories}
+use Rattle.laws_histories.proofs.Appending.{after-append, ledger-append}
+use Rattle.laws_histories.proofs.Frames.{frame-is-calls}
+use Rattle.laws_histories.proofs.Plays.{plays-after, plays-hold}
+use Rattle.laws_histories.proofs.Dumps.{dump-is-calls, dump-prints}
+use Rattle.laws_histories.proofs.Flush.{flush-applies}
+use Rattle.laws_histories.proofs.Resets.{reset-holds}
+use Rattle.laws_histories.proofs.HandedIn.{handed-in}
+
+tested : (c : Chip) → OfItsType c → chipIn c ≡ true → InRange c
+tested c t e = passed (record { registers = t .registers; stamps = t .stamps; numbers = t .numbers; values = t .values }) e
+
+pub histories : Histories
+histories =
+    record {
+      appended = λ a b c l. record { chip = after-append a b c; entries = ledger-append a b c l };
+      frame = frame-is-calls;
+      plays = plays-after;
+      plays-hold = plays-hold;
+      dump = dump-is-calls;
+      prints = dump-prints;
+      flush = flush-applies;
+      handed-in = λ c t e calls. handed-in c (tested c t e) calls;
+      reset = λ c t e earlier later. reset-holds c (tested c t e) earlier later;
+    }

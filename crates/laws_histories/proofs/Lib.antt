@@ -1,0 +1,10 @@
+pub mod Appending
+pub mod Frames
+pub mod Plays
+pub mod Dumps
+pub mod Flush
+pub mod Since
+pub mod Resets
+pub mod Splits
+pub mod HandedIn
+pub mod Histories

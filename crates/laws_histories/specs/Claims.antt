@@ -1,0 +1,118 @@
+-- What holds of histories beyond demand 3, claim by claim. Nothing here is proved; `histories : Histories` is, in
+-- `proofs/Histories.antt`. Assumes nothing.
+use mathlib.Core.Bool.{true, false}
+use mathlib.Core.List.{List, [], _++_, _∷_}
+use mathlib.Core.Path.{_≡_}
+use Prim.Native.Nat.{ℕ, _+_, _*_, _/_, _^_, _≤_, _<_}
+use lib.ListN.{length}
+use Rattle.refusals.specs.Numbers.{accepted, outOfRange}
+use Rattle.laws.specs.All.{All}
+use Rattle.envelope.specs.Range.{PositionInRange}
+use Rattle.queue.specs.Waiting.{waiting}
+use Rattle.queue_flush.specs.Applied.{applyAll}
+use Rattle.chip.specs.declared.Chip.{Chip}
+use Rattle.chip.specs.Clocks.{clocksOf}
+use Rattle.chip.specs.Range.{chipIn}
+use Rattle.clocks.specs.Clocks.{clocksNo}
+use Rattle.calls_making.specs.Making.{withClocks}
+use Rattle.calls_cycles.specs.Cycles.{pendingWriteCount}
+use Rattle.dump.specs.Checked.{verdictOf}
+use Rattle.dump_frames.specs.Frame.{framePlayed, frameBuffer}
+use Rattle.dump_words.specs.Words.{linesOf}
+use Rattle.dump_output.specs.Printed.{totalText}
+use Rattle.dump_played.specs.Whole.{chipBefore, wordsIn, printed}
+use Rattle.laws_promises.specs.History.{Call, reset, flush-pending-writes, answers, after, Ledger, emptyLedger, entered, ledger}
+use Rattle.laws_promises.specs.Demand.{N, T, Small, noiseOf, positionOf, FromZero, Plain, Served, Holds}
+use Rattle.laws_histories.specs.Histories.{AllAccepted, values, frameCalls, Play, afterPlays, allCalls, madeFor, dumpCalls, Began, OfItsType}
+
+-- Calls, and then more calls.
+pub record Appended (a b : List Call) (c : Chip) (l : Ledger) : Type 0 where
+  pub chip : after (a ++ b) c ≡ after b (after a c)
+  pub entries : ledger (a ++ b) c l ≡ ledger b (after a c) (ledger a c l)
+
+-- Playing a frame is its calls, for every value, buffer, chip and ledger.
+pub record FrameIsCalls (value out : List ℕ) (c : Chip) (l : Ledger) : Type 0 where
+  -- It leaves the chip that they leave, and each of them answers 0.
+  pub chip : framePlayed value (length out) c .chip ≡ after (frameCalls value out c) c
+  pub each : AllAccepted (frameCalls value out c) c
+  -- N and T grow by the words and the ticks that it answers, 0 and 0 where it is refused.
+  pub counted : N (ledger (frameCalls value out c) c l) ≡ N l + framePlayed value (length out) c .answer .words
+  pub ran : T (ledger (frameCalls value out c) c l) ≡ T l + framePlayed value (length out) c .answer .ticks
+  -- Accepted, the words entered are those that stand in the buffer; refused, nothing is entered.
+  pub words : framePlayed value (length out) c .answer .no ≡ accepted
+      → values (ledger (frameCalls value out c) c l .words) ≡ values (l .words) ++ frameBuffer value out c
+  pub refused : (framePlayed value (length out) c .answer .no ≡ accepted → ⊥) → ledger (frameCalls value out c) c l ≡ l
+  -- No frame queues a write.
+  pub writes : ledger (frameCalls value out c) c l .accepted ≡ l .accepted
+
+-- The first f frames of a dump are calls on the chip that its clocks make.
+abbrev pub dumpLedger : List ℕ → ℕ → Ledger
+dumpLedger text f = ledger (dumpCalls text f) (madeFor text) emptyLedger
+
+abbrev pub wholeLedger : List ℕ → Ledger
+wholeLedger text = dumpLedger text (verdictOf text .frames)
+
+pub record DumpIsCalls (text : List ℕ) (f : ℕ) : Type 0 where
+  pub chip : chipBefore text f ≡ after (dumpCalls text f) (madeFor text)
+  pub each : AllAccepted (dumpCalls text f) (madeFor text)
+  pub words : values (dumpLedger text f .words) ≡ wordsIn text f
+  pub counted : N (dumpLedger text f) ≡ f * verdictOf text .words
+  -- All that demand 3 says; and as no frame queues a write, nothing waits.
+  pub holds : Holds (verdictOf text .master) (verdictOf text .rate) (chipBefore text f) (dumpLedger text f)
+  pub writes : dumpLedger text f .accepted ≡ []
+  pub none : waiting (chipBefore text f .queue) ≡ []
+
+-- 01: "A flush applies all waiting writes in order." What an accepted flush enters as applied is what reaches the registers.
+pub record FlushApplies (c : Chip) (l : Ledger) : Type 0 where
+  pub applied : entered flush-pending-writes c l .applied ≡ l .applied ++ waiting (c .queue)
+  pub voice : answers flush-pending-writes c .chip .core .voice ≡ applyAll (waiting (c .queue)) (c .core .voice)
+  pub none : waiting (answers flush-pending-writes c .chip .queue) ≡ []
+
+-- Calls on a handed-in record that passes 22's test. The record may have any accumulator below the rate and any waiting writes, so the
+-- sums count from what it held: `begun`. Two fields of the demand cannot be said: `Beyond.restarted`, as the record may come in the midst
+-- of an envelope's start (position -64..-1); and `Beyond.agrees`, as the test asks of the noise output only that it is all ones or zeros,
+-- and not by the register's top bit. From a reset on all of the demand holds (`ResetHolds`).
+pub record HandedIn (c : Chip) (calls : List Call) (d : Chip) (l : Ledger) : Type 0 where
+  -- The clocks stay the record's, and those are accepted ones with their quotients.
+  pub clocks : d .core .clocks ≡ c .core .clocks
+  pub accepted-clocks : clocksNo (c .core .clocks .master) (c .core .clocks .rate) ≡ accepted
+  pub quotients : c .core .clocks ≡ clocksOf (c .core .clocks .master) (c .core .clocks .rate)
+  -- T × rate + the accumulator at the beginning = N × internal clock + the accumulator now, which is below the rate.
+  pub begun : Chip
+  pub began : Began calls c begun
+  pub sum : T l * c .core .clocks .rate + begun .core .accumulator ≡ N l * (c .core .clocks .master / 8) + d .core .accumulator
+  pub below : d .core .accumulator < c .core .clocks .rate
+  -- What waited at the beginning and then the writes accepted since are, in order, those applied and then those waiting.
+  pub writes : waiting (begun .queue) ++ l .accepted ≡ l .applied ++ waiting (d .queue)
+  pub small : All Small (l .words)
+  pub noise : 0 < noiseOf d .register
+  pub seventeen : noiseOf d .register < 2 ^ 17
+  pub never22 : (x : Call) → answers x d .no ≡ outOfRange → ⊥
+  pub refused : (x : Call) → (answers x d .no ≡ accepted → ⊥) → (answers x d .chip ≡ d) × (entered x d l ≡ l)
+  pub count : pendingWriteCount d ≡ record { no = accepted; count = length (waiting (d .queue)) }
+  pub position : PositionInRange (positionOf d)
+  pub circles : FromZero d → (later : List Call) → ledger later d emptyLedger .restarted ≡ false → FromZero (after later d)
+  pub served : (i : ℕ) → i < length (waiting (d .queue)) → (later : List Call) → All Plain later
+      → Served (waiting (d .queue)) i (ledger later d emptyLedger .words) (waiting (after later d .queue))
+
+-- A reset begins anew, on a handed-in record too: then the accumulator is 0 and nothing waits, and from there demand 3 holds whole.
+pub record ResetHolds (c : Chip) (earlier later : List Call) : Type 0 where
+  pub anew : after (earlier ++ reset ∷ []) c .core .accumulator ≡ 0
+  pub none : waiting (after (earlier ++ reset ∷ []) c .queue) ≡ []
+  pub holds : Holds (c .core .clocks .master) (c .core .clocks .rate) (after (earlier ++ reset ∷ later) c) (ledger (earlier ++ reset ∷ later) c emptyLedger)
+
+pub record Histories : Type 0 where
+  pub appended : (a b : List Call) (c : Chip) (l : Ledger) → Appended a b c l
+  pub frame : (value out : List ℕ) (c : Chip) (l : Ledger) → FrameIsCalls value out c l
+  -- Any calls with frames played among them come to calls, and demand 3 holds of them.
+  pub plays : (plays : List Play) (c : Chip) → afterPlays plays c ≡ after (allCalls plays c) c
+  pub plays-hold : (master rate : ℕ) → clocksNo master rate ≡ accepted → (plays : List Play)
+      → Holds master rate (afterPlays plays (withClocks master rate .chip))
+      (ledger (allCalls plays (withClocks master rate .chip)) (withClocks master rate .chip) emptyLedger)
+  -- A checked dump, frame by frame; and what is printed of it is the number of words in the ledger, and those words.
+  pub dump : (text : List ℕ) → verdictOf text .no ≡ accepted → (f : ℕ) → f ≤ verdictOf text .frames → DumpIsCalls text f
+  pub prints : (text : List ℕ) → verdictOf text .no ≡ accepted
+      → printed text ≡ totalText (N (wholeLedger text)) ++ linesOf (values (wholeLedger text .words))
+  pub flush : (c : Chip) (l : Ledger) → answers flush-pending-writes c .no ≡ accepted → FlushApplies c l
+  pub handed-in : (c : Chip) → OfItsType c → chipIn c ≡ true → (calls : List Call) → HandedIn c calls (after calls c) (ledger calls c emptyLedger)
+  pub reset : (c : Chip) → OfItsType c → chipIn c ≡ true → (earlier later : List Call) → ResetHolds c earlier later
