@@ -40,9 +40,9 @@ module _ (c : Chip) (h : InRange c) (calls : List Call) where
         quotients = quotients (c .core .clocks) (h .internal) (h .cycles);
         begun = begun;
         began = began;
-        sum = sum;
+        sum = omega (arith, sum);
         below = rw (s .clocks) at (r .accumulator);
-        writes = writes;
+        writes = cc;
         small = small;
         noise = n .some;
         seventeen = omega (arith, n .narrow);
