@@ -1,5 +1,4 @@
--- A frame that is accepted is a load and a block, one that is refused is nothing; so a history with frames in it is one of calls.
--- Assumes nothing.
+-- A frame that is accepted is a load and a block, one that is refused is no call. Assumes nothing.
 use mathlib.Core.Bool.{Bool, true, false, cond}
 use mathlib.Core.List.{List, [], _++_}
 use mathlib.Core.Path.{_≡_, refl, sym, ap, _∙_}

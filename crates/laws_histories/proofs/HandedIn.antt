@@ -9,7 +9,7 @@ use Rattle.queue.specs.Waiting.{waiting}
 use Rattle.chip.specs.declared.Chip.{Chip}
 use Rattle.chip.proofs.InRange.{InRange, passes}
 use Rattle.laws_promises.specs.History.{Call, reset, after, Ledger, emptyLedger, ledger}
-use Rattle.laws_promises.specs.Demand.{N, T, Small}
+use Rattle.laws_promises.specs.Demand.{N, T, Small, Kept}
 use Rattle.laws_promises.proofs.Numbered.{numbered}
 use Rattle.laws_promises.proofs.Circling.{calls-circle}
 use Rattle.laws_promises.proofs.Demand.{waiting-served, nothing-changes, counted}
@@ -61,8 +61,8 @@ module _ (c : Chip) (h : InRange c) (calls : List Call) where
 
   from-a-reset : Split calls → HandedIn c calls d l
   from-a-reset s =
-      let k = rw (← s .split) at (reset-holds c h (s .earlier) (s .later) .holds) .kept in
       let r = reset-holds c h (s .earlier) (s .later) in
+      let k : Kept (c .core .clocks .master) (c .core .clocks .rate) d l = rw (← s .split) at (r .holds .kept) in
       said (after (s .earlier ++ reset ∷ []) c)
       (inr (record { earlier = s .earlier; later = s .later; split = s .split; last = s .last; left = refl }))
       (k .small) (rw (r .anew) (omega (arith, k .sum))) (rw (r .none) (k .writes))

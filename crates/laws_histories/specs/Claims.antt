@@ -84,6 +84,7 @@ pub record HandedIn (c : Chip) (calls : List Call) (d : Chip) (l : Ledger) : Typ
   pub below : d .core .accumulator < c .core .clocks .rate
   -- What waited at the beginning and then the writes accepted since are, in order, those applied and then those waiting.
   pub writes : waiting (begun .queue) ++ l .accepted ≡ l .applied ++ waiting (d .queue)
+  -- The rest is the demand's, word for word.
   pub small : All Small (l .words)
   pub noise : 0 < noiseOf d .register
   pub seventeen : noiseOf d .register < 2 ^ 17
