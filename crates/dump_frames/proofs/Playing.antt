@@ -1,55 +1,86 @@
--- A frame's value played: a law for each return of `play_value`. Assumes nothing.
-use mathlib.Core.Bool.{Bool, true, false, not}
+-- A frame loaded and played: laws for the returns of `load_value` and `play_frame`. Assumes nothing.
+use mathlib.Core.Bool.{Bool, true, false, not, cond}
 use mathlib.Core.Path.{_≡_, refl, sym, ap, _∙_}
 use mathlib.Core.List.{List}
 use Prim.Native.Nat.{ℕ}
-use Rattle.laws.proofs.Tests.{on-eq, on-ne, on-no, on-yes}
-use Rattle.refusals.specs.Numbers.{lineNotOfForm, outOfRange}
+use native.Mathlib.Omega.{arith}
+use borrow.Author.Tests.{eq-eqb, ne-eqb}
+use Rattle.refusals.specs.Numbers.{accepted, lineNotOfForm, outOfRange}
 use Rattle.dump_lines.specs.OneLine.{isFrame}
 use Rattle.chip.specs.declared.Chip.{Chip}
 use Rattle.chip.specs.Range.{chipIn}
+use Rattle.answers.specs.Answers.{answered}
 use Rattle.answers.specs.declared.Answered.{Answered}
 use Rattle.answers.specs.declared.Blocked.{Blocked}
 use Rattle.chip_parts.specs.Parts.{withVoice}
 use Rattle.calls_registers.specs.Stored.{loadRegisters}
 use Rattle.registers.specs.declared.Voice.{Voice}
 use Rattle.calls_words.specs.Blocks.{blockRefused, blocked, blockBuffer}
-use Rattle.dump_frames.specs.Frame.{Registers, frameChip, framePlayed, frameBuffer}
+use Rattle.dump_frames.specs.Frame.{Registers, frameChip, frameLoaded, framePlayed, frameBuffer}
 use Rattle.dump_frames.proofs.Loading.{loaded-frame}
 
 pub not-false : (r : Bool) {t : Bool} → r ≡ t → not r ≡ false → t ≡ true
 not-false true e n = sym e
 not-false false e n = let z : true ≡ false = n in sym e ∙ sym z
 
-module _ (value : List ℕ) (n : ℕ) (out : List ℕ) (c : Chip) {r₁ : Bool} (q₁ : r₁ ≡ chipIn c) where
-  pub out-of-range : {b : Blocked} → not r₁ ≡ true → b ≡ blockRefused outOfRange c → (b ≡ framePlayed value n c) × (out ≡ frameBuffer value out c)
+-- a value loaded, by what was learnt of the chip and the value
+module _ (value : List ℕ) (c : Chip) (ranged : chipIn c ≡ true) (framed : isFrame value ≡ true) (bytes : List ℕ) (held : Registers value bytes) where
+  pub value-loaded : {l : Answered} → l ≡ loadRegisters bytes c → l ≡ frameLoaded value c
+  unfolding loadRegisters frameLoaded frameChip
+  value-loaded q = rw (ranged, framed) ((rw ranged at q) ∙ ap (λ (v : Voice). answered accepted (withVoice v c)) (loaded-frame value bytes held (c .core .voice)))
+
+-- the two tests of a frame, and the chip that it leaves
+module _ (c d : Chip) (l : Answered) where
+  abbrev Loaded : Bool → Bool → Type 0
+  Loaded t s = l ≡ cond t (cond s (answered accepted d) (answered lineNotOfForm c)) (answered outOfRange c)
+
+  loaded-not : (t s : Bool) → Loaded t s → (l .no ≡ 0 → ⊥) → (x : Blocked)
+      → blockRefused (l .no) c ≡ cond t (cond s x (blockRefused lineNotOfForm c)) (blockRefused outOfRange c)
+  loaded-not true true e z x = absurd (z (ap (λ (a : Answered). a .no) e))
+  loaded-not true false e z x = ap (λ (a : Answered). blockRefused (a .no) c) e
+  loaded-not false s e z x = ap (λ (a : Answered). blockRefused (a .no) c) e
+
+  loaded-left : (t s : Bool) → Loaded t s → (l .no ≡ 0 → ⊥) → (out words : List ℕ) → out ≡ cond t (cond s words out) out
+  loaded-left true true e z out words = absurd (z (ap (λ (a : Answered). a .no) e))
+  loaded-left true false e z out words = refl
+  loaded-left false s e z out words = refl
+
+  record Good (t s : Bool) : Type 0 where
+    ranged : t ≡ true
+    framed : s ≡ true
+    chip : l .chip ≡ d
+
+  loaded-good : (t s : Bool) → Loaded t s → l .no ≡ 0 → Good t s
+  loaded-good true true e z = record { ranged = refl; framed = refl; chip = ap (λ (a : Answered). a .chip) e }
+  loaded-good true false e z = let n : l .no ≡ 8 = ap (λ (a : Answered). a .no) e in absurd (omega (arith, n, z))
+  loaded-good false s e z = let n : l .no ≡ 22 = ap (λ (a : Answered). a .no) e in absurd (omega (arith, n, z))
+
+module _ (value : List ℕ) (n : ℕ) (out : List ℕ) (c : Chip) {l : Answered} (q : l ≡ frameLoaded value c) where
+  abbrev is : Loaded c (frameChip value c) l (chipIn c) (isFrame value)
+  unfolding frameLoaded
+  is = q
+
+  pub load-refused : {b : Blocked} → (l .no ≡ 0 → ⊥) → b ≡ blockRefused (l .no) c → (b ≡ framePlayed value n c) × (out ≡ frameBuffer value out c)
   unfolding framePlayed frameBuffer
-  out-of-range t p = (on-no _ _ _ _ _ q₁ t p, on-no _ _ _ _ _ q₁ t refl)
+  load-refused z e = (e ∙ loaded-not c (frameChip value c) l (chipIn c) (isFrame value) is z _, loaded-left c (frameChip value c) l (chipIn c) (isFrame value) is z out _)
 
-  module _ (g₁ : not r₁ ≡ false) {r₂ : Bool} (q₂ : r₂ ≡ isFrame value) where
-    pub no-frame : {b : Blocked} → not r₂ ≡ true → b ≡ blockRefused lineNotOfForm c → (b ≡ framePlayed value n c) × (out ≡ frameBuffer value out c)
-    unfolding framePlayed frameBuffer
-    no-frame t p = (on-yes _ _ _ _ _ q₁ g₁ (on-no _ _ _ _ _ q₂ t p), on-yes _ _ _ _ _ q₁ g₁ (on-no _ _ _ _ _ q₂ t refl))
+  module _ (z : l .no ≡ 0) {p : Blocked} (e : p ≡ blocked n (l .chip)) {after : List ℕ} (w : after ≡ blockBuffer out (l .chip)) where
+    good : Good c (frameChip value c) l (chipIn c) (isFrame value)
+    good = loaded-good c (frameChip value c) l (chipIn c) (isFrame value) is z
 
-    module _ (g₂ : not r₂ ≡ false) (bytes : List ℕ) (held : Registers value bytes) {l : Answered} (q₃ : l ≡ loadRegisters bytes c) where
-      loaded : l .chip ≡ frameChip value c
-      unfolding loadRegisters frameChip
-      loaded = rw (q₃, not-false r₁ q₁ g₁) (ap (λ (v : Voice). withVoice v c) (loaded-frame value bytes held (c .core .voice)))
+    played : p ≡ blocked n (frameChip value c)
+    played = rw (good .chip) at e
 
-      module _ {p : Blocked} (q₄ : p ≡ blocked n (l .chip)) {after : List ℕ} (w : after ≡ blockBuffer out (l .chip)) where
-        buffer : after ≡ frameBuffer value out c
-        unfolding frameBuffer
-        buffer = on-yes _ _ _ _ _ q₁ g₁ (on-yes _ _ _ _ _ q₂ g₂ (rw loaded at w))
+    buffer : after ≡ frameBuffer value out c
+    unfolding frameBuffer
+    buffer = rw (good .ranged, good .framed) (rw (good .chip) at w)
 
-        played : p ≡ blocked n (frameChip value c)
-        played = rw loaded at q₄
+    pub block-refused : {b : Blocked} → (p .answer .no ≡ 0 → ⊥) → b ≡ blockRefused (p .answer .no) c → (b ≡ framePlayed value n c) × (after ≡ frameBuffer value out c)
+    unfolding framePlayed
+    block-refused t f =
+        (rw (good .ranged, good .framed, ne-eqb (blocked n (frameChip value c) .answer .no) 0 (λ y. t (rw played y))) (rw played at f), buffer)
 
-        pub block-refused : {b : Blocked} → (p .answer .no ≡ 0 → ⊥) → b ≡ blockRefused (p .answer .no) c → (b ≡ framePlayed value n c) × (after ≡ frameBuffer value out c)
-        unfolding framePlayed
-        block-refused t e =
-            (on-yes _ _ _ _ _ q₁ g₁ (on-yes _ _ _ _ _ q₂ g₂ (on-ne _ 0 _ _ _ (λ z. t (rw played z)) (rw played at e))), buffer)
-
-        pub frame-played : p .answer .no ≡ 0 → (p ≡ framePlayed value n c) × (after ≡ frameBuffer value out c)
-        unfolding framePlayed
-        frame-played t =
-            (on-yes _ _ _ _ _ q₁ g₁ (on-yes _ _ _ _ _ q₂ g₂ (on-eq _ 0 _ _ _ (rw played at t) played)), buffer)
+    pub frame-played : p .answer .no ≡ 0 → (p ≡ framePlayed value n c) × (after ≡ frameBuffer value out c)
+    unfolding framePlayed
+    frame-played t =
+        (rw (good .ranged, good .framed, eq-eqb (blocked n (frameChip value c) .answer .no) 0 (rw played at t)) played, buffer)

@@ -12,6 +12,8 @@ use Rattle.registers.specs.Writes.{RegisterWrite, appliedInOrder, allRegisters}
 use Rattle.chip.specs.declared.Chip.{Chip}
 use Rattle.chip.specs.Range.{chipIn}
 use Rattle.chip_parts.specs.Parts.{onVoice}
+use Rattle.answers.specs.Answers.{answered, unless22}
+use Rattle.answers.specs.declared.Answered.{Answered}
 use Rattle.answers.specs.declared.Blocked.{Blocked}
 use Rattle.calls_words.specs.Blocks.{blockRefused, blocked, blockBuffer}
 
@@ -22,6 +24,9 @@ frameWrites value = allRegisters (hexByte value)
 -- at once: past the queue
 unfoldable pub frameChip : List ℕ → Chip → Chip
 frameChip value c = onVoice (appliedInOrder (frameWrites value)) c
+
+unfoldable pub frameLoaded : List ℕ → Chip → Answered
+frameLoaded value c = unless22 c (cond (isFrame value) (answered accepted (frameChip value c)) (answered lineNotOfForm c))
 
 -- then renders its words: a frame is refused or played whole
 abbrev pub keptIf : Chip → Blocked → Blocked

@@ -1,0 +1,47 @@
+-- `dump_frames::load_value` meets its contract: 22, then 8, then all registers. Assumes nothing.
+use Rattle.dump_frames.proofs.Playing.{not-false, value-loaded}
+use Rattle.dump_frames.specs.Frame.{frameLoaded}
+use Rattle.laws.proofs.Tests.{on-no, on-yes}
+use mathlib.Core.Path.{refl}
+use borrow.Author.Needs.{needs}
+use Rattle.dump_frames.proofs.load_value.Statement.{statement}
+use Rattle.dump_frames.proofs.load_value.Tie as tie
+
+in-range-requires : tie.Need-in-range-requires
+in-range-requires c κs = search needs
+
+refused-requires : tie.Need-refused-requires
+refused-requires c κs = search needs
+
+returns : tie.Need-returns
+unfolding frameLoaded
+returns c = on-no _ _ _ _ _ (c .before .before .in-range .ensures) (c .before .if1 .taken) (c .refused .ensures)
+
+is-frame-requires : tie.Need-is-frame-requires
+is-frame-requires c κs = search needs
+
+returns-2 : tie.Need-returns-2
+unfolding frameLoaded
+returns-2 c = on-yes _ _ _ _ _ (c .before .before .before .in-range .ensures) (c .before .before .if1 .left) (on-no _ _ _ _ _ (c .before .is-frame .ensures) (c .if2 .taken) refl)
+
+registers-of-requires : tie.Need-registers-of-requires
+registers-of-requires c κs = not-false _ (c .before .is-frame .ensures) (c .if2 .left)
+
+load-registers-requires : tie.Need-load-registers-requires
+load-registers-requires c κs = search needs
+
+returns-3 : tie.Need-returns-3
+returns-3 c = value-loaded _ _ (not-false _ (c .before .before .before .before .before .in-range .ensures) (c .before .before .before .before .if1 .left)) (not-false _ (c .before .before .before .is-frame .ensures) (c .before .before .if2 .left)) _ (c .before .registers-of .ensures) (c .load-registers .ensures)
+
+pub load-value-spec : {M : Type 1} → statement M
+load-value-spec =
+    tie.close
+    (tie.spec
+    in-range-requires
+    refused-requires
+    returns
+    is-frame-requires
+    returns-2
+    registers-of-requires
+    load-registers-requires
+    returns-3)
