@@ -10,22 +10,19 @@ use lib.ListN.{length}
 use Rattle.refusals.specs.Numbers.{accepted, lineNotOfForm, outOfRange}
 use Rattle.laws.proofs.Tests.{by-cond, by-eq, by-same}
 use Rattle.dump_lines.specs.OneLine.{isFrame}
-use Rattle.registers.specs.declared.Voice.{Voice}
-use Rattle.registers.specs.Writes.{registersFrom, appliedInOrder, loaded}
 use Rattle.chip.specs.declared.Chip.{Chip}
 use Rattle.chip.specs.Range.{chipIn}
-use Rattle.chip_parts.specs.Parts.{withVoice}
 use Rattle.answers.specs.Answers.{answered}
 use Rattle.answers.specs.declared.Answered.{Answered}
 use Rattle.answers.specs.declared.Blocked.{Blocked}
-use Rattle.calls_registers.specs.Stored.{loadRegisters}
 use Rattle.calls_words.specs.Blocks.{blockRefused, blocked, blockBuffer}
-use Rattle.dump_frames.specs.Frame.{frameWrites, frameChip, keptIf, framePlayed, frameBuffer}
+use Rattle.dump_frames.specs.Frame.{frameChip, frameLoaded, keptIf, framePlayed, frameBuffer}
 use Rattle.laws_promises.specs.History.{load-registers, block, answers, after, Ledger, restarts, enters, isAccepted, entered, ledger}
 use Rattle.laws_promises.specs.Demand.{N, T}
 use Rattle.laws_promises.proofs.Handed.{block-adds, block-words}
 use Rattle.laws_histories.specs.Histories.{AllAccepted, values, frameBytes, loadThenRender, frameCalls}
 use Rattle.laws_histories.specs.Claims.{FrameIsCalls}
+use Rattle.laws_histories.proofs.Loads.{load-answers, load-enters}
 
 -- what an accepted frame has passed
 kept-taken : (c : Chip) (b : Blocked) → keptIf c b .answer .no ≡ accepted → b .answer .no ≡ accepted
@@ -44,20 +41,10 @@ passed c b true true e = record { range = refl; frame = refl; block = kept-taken
 passed c b true false e = absurd (omega arith)
 passed c b false frame e = absurd (omega arith)
 
--- loading a frame's bytes is its writes
-loaded-bytes : (value : List ℕ) (v : Voice) → loaded (frameBytes value) v ≡ appliedInOrder (frameWrites value) v
-unfolding frameBytes frameWrites registersFrom
-loaded-bytes value v = refl
-
 -- one call
 block-chip : (out : List ℕ) (c : Chip) → answers (block out) c .chip ≡ blocked (length out) c .chip
 unfolding answers
 block-chip out c = refl
-
-load-enters : (bytes : List ℕ) (c d : Chip) (l : Ledger) → answers (load-registers bytes) c ≡ answered accepted d
-    → entered (load-registers bytes) c l ≡ restarts true l
-unfolding entered enters
-load-enters bytes c d l e = rw (ap (λ (a : Answered). a .no) e)
 
 block-queues-none : (out : List ℕ) (c : Chip) (l : Ledger) → entered (block out) c l .accepted ≡ l .accepted
 unfolding entered enters
@@ -72,19 +59,25 @@ module _ (value out : List ℕ) (c : Chip) (e : framePlayed value (length out) c
   unfolding framePlayed
   was = passed c (blocked (length out) d) (chipIn c) (isFrame value) e
 
-  loads : answers (load-registers (frameBytes value)) c ≡ answered accepted d
-  unfolding answers loadRegisters frameChip
-  loads = rw (was .range) (ap (λ (v : Voice). answered accepted (withVoice v c)) (loaded-bytes value (c .core .voice)))
+  pub frame-in-range : chipIn c ≡ true
+  frame-in-range = was .range
+
+  pub loads : answers (load-registers (frameBytes value)) c ≡ answered accepted d
+  loads = load-answers value c (was .range)
+
+  pub load-taken : frameLoaded value c ≡ answered accepted d
+  unfolding frameLoaded
+  load-taken = rw (was .range, was .frame)
 
   played : framePlayed value (length out) c ≡ blocked (length out) d
   unfolding framePlayed
   played = rw (was .range, was .frame, eq-eqb _ accepted (was .block))
 
-  buffer : frameBuffer value out c ≡ blockBuffer out d
+  pub buffer : frameBuffer value out c ≡ blockBuffer out d
   unfolding frameBuffer
   buffer = rw (was .range, was .frame)
 
-  renders-fine : answers (block out) d .no ≡ accepted
+  pub renders-fine : answers (block out) d .no ≡ accepted
   unfolding answers
   renders-fine = was .block
 
@@ -113,7 +106,7 @@ module _ (value out : List ℕ) (c : Chip) (e : framePlayed value (length out) c
   pub frame-queues-none : (l : Ledger) → ledger (loadThenRender value out) c l .accepted ≡ l .accepted
   frame-queues-none l = rw (frame-ledger l) (block-queues-none out d (restarts true l))
 
-  frame-is : frameCalls value out c ≡ loadThenRender value out
+  pub frame-is : frameCalls value out c ≡ loadThenRender value out
   unfolding frameCalls
   frame-is = rw (eq-eqb _ accepted e)
 

@@ -4,11 +4,15 @@ use mathlib.Core.Path.{_≡_}
 use Rattle.chip.specs.declared.Chip.{Chip}
 use Rattle.chip.specs.Range.{chipIn}
 use Rattle.chip.proofs.InRange.{InRange, passed}
-use Rattle.laws_histories.specs.Histories.{OfItsType}
+use Rattle.laws_histories.specs.Histories.{joined, OfItsType}
 use Rattle.laws_histories.specs.Claims.{Histories}
 use Rattle.laws_histories.proofs.Appending.{after-append, ledger-append}
-use Rattle.laws_histories.proofs.Frames.{frame-is-calls}
+use Rattle.laws_histories.proofs.Loads.{load-is-call}
+use Rattle.laws_histories.proofs.Frames.{frame-in-range, frame-is-calls}
+use Rattle.laws_histories.proofs.Accepted.{block-in-range}
+use Rattle.laws_histories.proofs.Blocks.{blocks-join}
 use Rattle.laws_histories.proofs.Plays.{plays-after, plays-hold}
+use Rattle.laws_histories.proofs.Parts.{frame-in-parts}
 use Rattle.laws_histories.proofs.Dumps.{dump-is-calls, dump-prints}
 use Rattle.laws_histories.proofs.Flush.{flush-applies}
 use Rattle.laws_histories.proofs.Resets.{reset-holds}
@@ -21,7 +25,10 @@ pub histories : Histories
 histories =
     record {
       appended = λ a b c l. record { chip = after-append a b c; entries = ledger-append a b c l };
+      load = load-is-call;
       frame = frame-is-calls;
+      blocks-join = λ outs c l t e. blocks-join outs c (tested c t (block-in-range (joined outs) c e)) e l;
+      frame-in-parts = λ value outs c l t e. frame-in-parts value outs c (tested c t (frame-in-range value (joined outs) c e)) e l;
       plays = plays-after;
       plays-hold = plays-hold;
       dump = dump-is-calls;

@@ -1,6 +1,11 @@
 pub mod Appending
+pub mod Loads
 pub mod Frames
+pub mod Joining
+pub mod Accepted
+pub mod Blocks
 pub mod Plays
+pub mod Parts
 pub mod Dumps
 pub mod Flush
 pub mod Since

@@ -12,12 +12,14 @@ use Rattle.laws_promises.proofs.Demand.{demand-3}
 use Rattle.laws_histories.specs.Histories
 use Rattle.laws_histories.specs.Histories.{Play, afterPlays, allCalls}
 use Rattle.laws_histories.proofs.Appending.{after-append}
+use Rattle.laws_histories.proofs.Loads.{load-is-call}
 use Rattle.laws_histories.proofs.Frames.{frame-is-calls}
 
 -- a call or a frame leaves what its calls leave
 left : (p : Play) (c : Chip) → Histories.leaves p c ≡ after (Histories.callsOf p c) c
 unfolding Histories.leaves after
 left (Histories.call x) c = refl
+left (Histories.load-frame value) c = load-is-call value c emptyLedger .chip
 left (Histories.play-frame value out) c = frame-is-calls value out c emptyLedger .chip
 
 pub plays-after : (plays : List Play) (c : Chip) → afterPlays plays c ≡ after (allCalls plays c) c

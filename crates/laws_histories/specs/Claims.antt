@@ -1,7 +1,7 @@
 -- What holds of histories beyond demand 3, claim by claim. Nothing here is proved; `histories : Histories` is, in
 -- `proofs/Histories.antt`. Assumes nothing.
 use mathlib.Core.Bool.{true, false}
-use mathlib.Core.List.{List, [], _++_, _∷_}
+use mathlib.Core.List.{List, [], _++_, _∷_, map}
 use mathlib.Core.Path.{_≡_}
 use Prim.Native.Nat.{ℕ, _+_, _*_, _/_, _^_, _≤_, _<_}
 use lib.ListN.{length}
@@ -17,18 +17,32 @@ use Rattle.clocks.specs.Clocks.{clocksNo}
 use Rattle.calls_making.specs.Making.{withClocks}
 use Rattle.calls_cycles.specs.Cycles.{pendingWriteCount}
 use Rattle.dump.specs.Checked.{verdictOf}
-use Rattle.dump_frames.specs.Frame.{framePlayed, frameBuffer}
+use Rattle.calls_words.specs.Blocks.{blockBuffer}
+use Rattle.dump_frames.specs.Frame.{frameLoaded, framePlayed, frameBuffer}
 use Rattle.dump_words.specs.Words.{linesOf}
 use Rattle.dump_output.specs.Printed.{totalText}
 use Rattle.dump_played.specs.Whole.{chipBefore, wordsIn, printed}
-use Rattle.laws_promises.specs.History.{Call, reset, flush-pending-writes, answers, after, Ledger, emptyLedger, entered, ledger}
+use Rattle.laws_promises.specs.History.{Call, reset, load-registers, flush-pending-writes, block, answers, after, Ledger, emptyLedger, entered, ledger}
 use Rattle.laws_promises.specs.Demand.{N, T, Small, noiseOf, positionOf, FromZero, Plain, Served, Holds}
-use Rattle.laws_histories.specs.Histories.{AllAccepted, values, frameCalls, Play, afterPlays, allCalls, madeFor, dumpCalls, Began, OfItsType}
+use Rattle.laws_histories.specs.Histories.{AllAccepted, values, frameBytes, frameCalls, loadCalls, Play, afterPlays, allCalls, joined, handed, inParts, madeFor, dumpCalls, Began, OfItsType}
 
 -- Calls, and then more calls.
 pub record Appended (a b : List Call) (c : Chip) (l : Ledger) : Type 0 where
   pub chip : after (a ++ b) c ≡ after b (after a c)
   pub entries : ledger (a ++ b) c l ≡ ledger b (after a c) (ledger a c l)
+
+-- Loading a frame is its call, for every value, chip and ledger.
+pub record LoadIsCall (value : List ℕ) (c : Chip) (l : Ledger) : Type 0 where
+  -- It leaves the chip that the call leaves. There is a call just where it answers 0, and that answers 0 too.
+  pub chip : frameLoaded value c .chip ≡ after (loadCalls value c) c
+  pub each : AllAccepted (loadCalls value c) c
+  pub one : frameLoaded value c .no ≡ accepted → loadCalls value c ≡ load-registers (frameBytes value) ∷ []
+  pub none : (frameLoaded value c .no ≡ accepted → ⊥) → loadCalls value c ≡ []
+  -- It renders no word, runs no tick and queues no write; refused, nothing is entered.
+  pub counted : N (ledger (loadCalls value c) c l) ≡ N l
+  pub ran : T (ledger (loadCalls value c) c l) ≡ T l
+  pub writes : ledger (loadCalls value c) c l .accepted ≡ l .accepted
+  pub refused : (frameLoaded value c .no ≡ accepted → ⊥) → ledger (loadCalls value c) c l ≡ l
 
 -- Playing a frame is its calls, for every value, buffer, chip and ledger.
 pub record FrameIsCalls (value out : List ℕ) (c : Chip) (l : Ledger) : Type 0 where
@@ -44,6 +58,21 @@ pub record FrameIsCalls (value out : List ℕ) (c : Chip) (l : Ledger) : Type 0 
   pub refused : (framePlayed value (length out) c .answer .no ≡ accepted → ⊥) → ledger (frameCalls value out c) c l ≡ l
   -- No frame queues a write.
   pub writes : ledger (frameCalls value out c) c l .accepted ≡ l .accepted
+
+-- An accepted block is the same history in any number of parts, each of them accepted: they leave the same chip, enter the same and hand
+-- over the same words.
+pub record BlocksJoin (outs : List (List ℕ)) (c : Chip) (l : Ledger) : Type 0 where
+  pub each : AllAccepted (map block outs) c
+  pub chip : after (map block outs) c ≡ after (block (joined outs) ∷ []) c
+  pub entries : ledger (map block outs) c l ≡ ledger (block (joined outs) ∷ []) c l
+  pub words : handed outs c ≡ blockBuffer (joined outs) c
+
+-- So is an accepted frame that is loaded and handed out in parts.
+pub record FrameInParts (value : List ℕ) (outs : List (List ℕ)) (c : Chip) (l : Ledger) : Type 0 where
+  pub each : AllAccepted (allCalls (inParts value outs) c) c
+  pub chip : afterPlays (inParts value outs) c ≡ framePlayed value (length (joined outs)) c .chip
+  pub entries : ledger (allCalls (inParts value outs) c) c l ≡ ledger (frameCalls value (joined outs) c) c l
+  pub words : handed outs (frameLoaded value c .chip) ≡ frameBuffer value (joined outs) c
 
 -- The first f frames of a dump are calls on the chip that its clocks make.
 abbrev pub dumpLedger : List ℕ → ℕ → Ledger
@@ -104,8 +133,13 @@ pub record ResetHolds (c : Chip) (earlier later : List Call) : Type 0 where
 
 pub record Histories : Type 0 where
   pub appended : (a b : List Call) (c : Chip) (l : Ledger) → Appended a b c l
+  pub load : (value : List ℕ) (c : Chip) (l : Ledger) → LoadIsCall value c l
   pub frame : (value out : List ℕ) (c : Chip) (l : Ledger) → FrameIsCalls value out c l
-  -- Any calls with frames played among them come to calls, and demand 3 holds of them.
+  pub blocks-join : (outs : List (List ℕ)) (c : Chip) (l : Ledger) → OfItsType c → answers (block (joined outs)) c .no ≡ accepted
+      → BlocksJoin outs c l
+  pub frame-in-parts : (value : List ℕ) (outs : List (List ℕ)) (c : Chip) (l : Ledger) → OfItsType c
+      → framePlayed value (length (joined outs)) c .answer .no ≡ accepted → FrameInParts value outs c l
+  -- Any calls with frames loaded and played among them come to calls, and demand 3 holds of them.
   pub plays : (plays : List Play) (c : Chip) → afterPlays plays c ≡ after (allCalls plays c) c
   pub plays-hold : (master rate : ℕ) → clocksNo master rate ≡ accepted → (plays : List Play)
       → Holds master rate (afterPlays plays (withClocks master rate .chip))

@@ -11,7 +11,8 @@ use Rattle.text_fields.specs.Fields.{hexByte}
 use Rattle.dump.specs.Checked.{verdictOf}
 use Rattle.chip.specs.declared.Chip.{Chip}
 use Rattle.calls_making.specs.Making.{withClocks}
-use Rattle.dump_frames.specs.Frame.{framePlayed}
+use Rattle.calls_words.specs.Blocks.{blockBuffer}
+use Rattle.dump_frames.specs.Frame.{frameLoaded, framePlayed}
 use Rattle.dump_played.specs.Whole.{valueOf}
 use Rattle.laws_promises.specs.History.{Call, reset, load-registers, block, answers, after, Entry, isAccepted}
 
@@ -39,17 +40,24 @@ loadThenRender value out = load-registers (frameBytes value) ∷ block out ∷ [
 unfoldable pub frameCalls : List ℕ → List ℕ → Chip → List Call
 frameCalls value out c = cond (isAccepted (framePlayed value (length out) c .answer .no)) (loadThenRender value out) []
 
+-- Loading a frame and rendering nothing (`load_frame`), as calls: one, or none where it is refused.
+unfoldable pub loadCalls : List ℕ → Chip → List Call
+loadCalls value c = cond (isAccepted (frameLoaded value c .no)) (load-registers (frameBytes value) ∷ []) []
+
 -- A history with frames among its calls: what it leaves, and the calls that it comes to.
 pub data Play : Type 0 where
   call : Call → Play
+  load-frame : (value : List ℕ) → Play
   play-frame : (value out : List ℕ) → Play
 
 unfoldable pub leaves : Play → Chip → Chip
 leaves (call x) c = answers x c .chip
+leaves (load-frame value) c = frameLoaded value c .chip
 leaves (play-frame value out) c = framePlayed value (length out) c .chip
 
 abbrev pub callsOf : Play → Chip → List Call
 callsOf (call x) c = x ∷ []
+callsOf (load-frame value) c = loadCalls value c
 callsOf (play-frame value out) c = frameCalls value out c
 
 unfoldable pub afterPlays : List Play → Chip → Chip
@@ -59,6 +67,19 @@ afterPlays (p ∷ plays) c = afterPlays plays (leaves p c)
 unfoldable pub allCalls : List Play → Chip → List Call
 allCalls [] c = []
 allCalls (p ∷ plays) c = callsOf p c ++ allCalls plays (leaves p c)
+
+-- Buffers one behind the other, and what blocks leave in them, each on the chip that the one ahead of it leaves.
+abbrev pub joined : List (List ℕ) → List ℕ
+joined [] = []
+joined (out ∷ outs) = out ++ joined outs
+
+abbrev pub handed : List (List ℕ) → Chip → List ℕ
+handed [] c = []
+handed (out ∷ outs) c = blockBuffer out c ++ handed outs (answers (block out) c .chip)
+
+-- A frame as the player plays it where the buffer is short: loaded, and its words handed out in several blocks.
+abbrev pub inParts : List ℕ → List (List ℕ) → List Play
+inParts value outs = load-frame value ∷ map (λ (out : List ℕ). call (block out)) outs
 
 -- The chip that a dump is played on.
 abbrev pub madeFor : List ℕ → Chip

@@ -1,14 +1,13 @@
 -- What the ledger enters of a word is what the chip does: its writes are applied, its ticks are run, and a call hands over its value and
 -- answers its ticks. Assumes nothing.
-use mathlib.Core.Bool.{Bool, true, false, cond}
+use mathlib.Core.Bool.{cond}
 use mathlib.Core.List.{List, [], _∷_, _++_, map, map-append}
 use mathlib.Core.Path.{_≡_, refl, sym, ap, _∙_}
 use Prim.Native.Nat.{ℕ, zero, suc, _+_}
 use native.Mathlib.Omega.{arith}
 use borrow.Author.Tests.{eq-eqb, ne-eqb}
-use lib.Dec.{eqb}
 use lib.ListN.{length, length-append, getD}
-use Rattle.refusals.specs.Numbers.{accepted, outOfRange}
+use Rattle.refusals.specs.Numbers.{accepted}
 use Rattle.laws.proofs.Tests.{by-cond, by-eq, by-le}
 use Rattle.generators.specs.declared.Generators.{Generators}
 use Rattle.generators.specs.Generators.{tick}
@@ -23,7 +22,8 @@ use Rattle.clocking_block.specs.Block.{afterOne, ticksOf, wordsOf}
 use Rattle.clocking_word.specs.Word.{drained, ranOf, wordOf, wordFrom}
 use Rattle.chip.specs.Range.{chipIn}
 use Rattle.answers.specs.declared.Blocked.{Blocked}
-use Rattle.calls_words.specs.Blocks.{blockNo, blockPlayed, blockRefused, blocked, blockBuffer, sampled}
+use Rattle.calls_words.specs.Blocks.{blockNo, blocked, blockBuffer, sampled}
+use Rattle.calls_words.proofs.Accepted.{buffer-words}
 use Rattle.laws_promises.specs.History.{Call, compute-next-sample, block, answers, Entry, entryOf, entries, ticksIn, Ledger, renders, enters, isAccepted, entered}
 use Rattle.laws_promises.specs.Demand.{N, T}
 use Rattle.laws_promises.proofs.DemandKept.{ticks-append}
@@ -126,17 +126,6 @@ unfolding entered answers enters sampled
 sample-adds c l = adds 1 c l
 
 -- an accepted block leaves its words in the buffer, an accepted sample answers its word
-chosen : (n : ℕ) (c : Chip) (words out : List ℕ) (number : ℕ) (t s : Bool) → s ≡ eqb number accepted
-    → cond t (cond s (blockPlayed n c) (blockRefused number c)) (blockRefused outOfRange c) .answer .no ≡ accepted
-    → cond t (cond s words out) out ≡ words
-chosen n c words out number true true e z = refl
-chosen n c words out number true false e z = let q : false ≡ true = e ∙ eq-eqb number accepted z in cc
-chosen n c words out number false s e z = absurd (omega arith)
-
-buffer-words : (out : List ℕ) (c : Chip) → blocked (length out) c .answer .no ≡ accepted → blockBuffer out c ≡ wordsOf (length out) c
-unfolding blocked blockBuffer
-buffer-words out c e = chosen (length out) c _ out (blockNo (length out) c) (chipIn c) _ refl e
-
 entered-words : (x : Call) (c : Chip) (l : Ledger) (n : ℕ) → answers x c .no ≡ accepted → enters x c l ≡ renders (entries n c) l
     → values (entered x c l .words) ≡ values (l .words) ++ wordsOf n c
 unfolding entered
