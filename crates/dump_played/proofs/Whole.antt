@@ -32,14 +32,14 @@ use Rattle.dump_frames.specs.Frame.{frameWrites, frameChip, framePlayed, frameB
 use Rattle.dump_played.specs.Whole.{framePlace, valueOf, chipBefore, frameWords}
 
 -- a frame's writes keep the chip in range, its clocks and its start
-frame-kept : (value : List ℕ) {c : Chip} → InRange c → InRange (frameChip value c)
+pub frame-kept : (value : List ℕ) {c : Chip} → InRange c → InRange (frameChip value c)
 unfolding frameChip
 frame-kept value h = voice-kept h (applied-in (frameWrites value) (h .voice))
 
 -- where the next word starts, and that the clocks stay
-record On (c d : Chip) (n : ℕ) : Type 0 where
-  cycles : d .core .clocks .cycles ≡ c .core .clocks .cycles
-  start : d .core .start ≡ c .core .start + n * c .core .clocks .cycles
+pub record On (c d : Chip) (n : ℕ) : Type 0 where
+  pub cycles : d .core .clocks .cycles ≡ c .core .clocks .cycles
+  pub start : d .core .start ≡ c .core .start + n * c .core .clocks .cycles
 
 frame-on : (value : List ℕ) (c : Chip) → On c (frameChip value c) 0
 unfolding frameChip
@@ -56,7 +56,7 @@ joined {c} {d} {e} m n a b =
     let s : e .core .start ≡ d .core .start + n * k = rw (a .cycles) at (b .start) in
     record { cycles = b .cycles ∙ a .cycles; start = rw z (omega (arith, s, a .start)) }
 
-words-on : (n : ℕ) (c : Chip) → On c (afterWords n c) n
+pub words-on : (n : ℕ) (c : Chip) → On c (afterWords n c) n
 unfolding afterWords
 words-on zero c = record { cycles = refl; start = omega arith }
 words-on (suc n) c = let z : 1 + n ≡ suc n = omega arith in rw z at (joined 1 n (one-on c) (words-on n (afterOne c)))
@@ -70,7 +70,7 @@ place-is t (suc f) = ap (λ (p : ℕ). lineAt t p .next) (place-is t f)
 abbrev made : List ℕ → Chip
 made t = withClocks (verdictOf t .master) (verdictOf t .rate) .chip
 
-made-start : (master rate : ℕ) → withClocks master rate .chip .core .start ≡ 0
+pub made-start : (master rate : ℕ) → withClocks master rate .chip .core .start ≡ 0
 unfolding withClocks madeOf fresh
 made-start master rate =
     by-cond (λ (x : Answered). x .chip .core .start ≡ 0) (eqb (clocksNo master rate) 0) _ _ (λ _. refl) (λ _. refl)
@@ -95,6 +95,10 @@ before t (suc f) =
       on = rw z at (joined (f * n + 0) n (joined (f * n) 0 (b .on) (frame-on (valueOf t f) (chipBefore t f))) (words-on n d));
     }
 
+-- it is in range
+pub chip-range : (t : List ℕ) (f : ℕ) → InRange (chipBefore t f)
+chip-range t f = before t f .range
+
 module _ (t : List ℕ) (ok : verdictOf t .no ≡ 0) (f : ℕ) (h : f < verdictOf t .frames) where
   abbrev n : ℕ
   n = verdictOf t .words
@@ -105,12 +109,12 @@ module _ (t : List ℕ) (ok : verdictOf t .no ≡ 0) (f : ℕ) (h : f < verdictO
   abbrev d : Chip
   d = frameChip (valueOf t f) c
 
-  good : isFrame (valueOf t f) ≡ true
+  pub good : isFrame (valueOf t f) ≡ true
   unfolding frameAt
   good = rw (← place-is t f) at (accepted-laid t ok .frame f h)
 
   -- 1,900 frames of 4,096 words end long before cycle 2^64
-  soon : d .core .start + n * d .core .clocks .cycles < 2 ^ 64
+  pub soon : d .core .start + n * d .core .clocks .cycles < 2 ^ 64
   soon =
       let l = accepted-laid t ok in
       let b = before t f in

@@ -25,7 +25,7 @@ lined-outside out at words h = lined-none out at words (omega arith)
 pub lined-tight : (out : List ℕ) (at : ℕ) (words : List ℕ) → at ≤ length out → (length out - at) / 6 < length words → Lined out at words at out
 lined-tight out at words h g = lined-none out at words (omega arith)
 
-lines-join : (a b : List ℕ) → linesOf (a ++ b) ≡ linesOf a ++ linesOf b
+pub lines-join : (a b : List ℕ) → linesOf (a ++ b) ≡ linesOf a ++ linesOf b
 unfolding linesOf
 lines-join [] b = refl
 lines-join (w ∷ a) b = ap (λ (l : List ℕ). numberText w 10 ++ l) (lines-join a b) ∙ sym (append-assoc (numberText w 10) (linesOf a) (linesOf b))

@@ -6,7 +6,7 @@ use denote.Ref.{RefT}
 use Rattle.text_lines.specs.declared.Line.{Line}
 use Rattle.dump_reader.specs.declared.DumpReader.{DumpReader}
 use Rattle.laws_one_answer.specs.Dump.{Played}
-use Rattle.laws_one_answer.proofs.Laws.{same, both, by-answer, by-buffer}
+use Rattle.laws_one_answer.proofs.Laws.{same, both, by-answer, by-first, by-buffer}
 
 -- readers of one text at one place
 readers : {r s : DumpReader} {text : RefT (List ℕ)} {at : ℕ} → r .text ≡ text → r .at ≡ at → s .text ≡ text → s .at ≡ at → r ≡ s
@@ -37,14 +37,22 @@ played =
       words-line-no = λ h x y. by-answer (h .𝓤);
       frames-line-no = λ h x y. by-answer (h .𝓤);
       frame-at = λ h x y. by-answer (h .𝓤);
+      load-frame = λ h x y. by-answer (h .𝓤);
       play-frame = λ h x y. by-buffer (h .𝓤) (λ w. (tt, (tt, (tt, (w, tt)))));
       put-bytes = λ h x y. by-buffer (h .𝓤) (λ w. (w, (tt, (tt, tt))));
       put-number = λ h x y. by-buffer (h .𝓤) (λ w. (w, (tt, (tt, (tt, tt)))));
       put-decimal = λ h x y. by-buffer (h .𝓤) (λ w. (w, (tt, (tt, tt))));
       put-hex = λ h x y. by-buffer (h .𝓤) (λ w. (w, (tt, (tt, (tt, tt)))));
       put-words = λ h x y. by-buffer (h .𝓤) (λ w. (w, (tt, (tt, tt))));
-      refusal = λ h x y. by-answer (h .𝓤);
-      total = λ h x y. by-answer (h .𝓤);
+      put-first-line = λ h x y. by-buffer (h .𝓤) (λ w. (w, (tt, tt)));
+      first-line-given = λ h x y. by-answer (h .𝓤);
+      frame-due = λ h x y. by-answer (h .𝓤);
+      frame-begins = λ h x y. by-answer (h .𝓤);
+      words-for = λ h x y. by-answer (h .𝓤);
+      words-given = λ h x y. by-answer (h .𝓤);
+      start = λ h x y. by-answer (h .𝓤);
+      next-piece = λ h x y. by-buffer (h .𝓤) (λ w. (tt, (tt, (w, tt))));
+      room = λ h x y. by-first (h .𝓤);
       ym2149-play = λ h x y. by-buffer (h .𝓤) (λ w. (tt, (tt, (tt, (w, tt)))));
       ym2149-play-blocks = λ h x y. by-buffer (h .𝓤) (λ w. (tt, (tt, (tt, (tt, (w, tt))))));
       ym2149-play-writes = λ h x y. by-buffer (h .𝓤) (λ w. (tt, (tt, (tt, (tt, (tt, (w, tt)))))));

@@ -26,6 +26,11 @@ module _ {M : Type 1} (𝓤 : URA M) where
   pub by-answer : {R L : Type 0} {d r s : R} {l : L} → ent 𝓤 (conj 𝓤 (fact 𝓤 (r ≡ d)) (fact 𝓤 (s ≡ d))) (fact 𝓤 (_≡_ {A = R × L} (r, l) (s, l)))
   by-answer {l = l} = both (λ p q i. (same p q i, l))
 
+  -- an answer, by the first of two clauses
+  pub by-first : {R L : Type 0} {d r s : R} {φ ψ : Type 0} {l : L} →
+      ent 𝓤 (conj 𝓤 (sep 𝓤 (fact 𝓤 (r ≡ d)) (fact 𝓤 φ)) (sep 𝓤 (fact 𝓤 (s ≡ d)) (fact 𝓤 ψ))) (fact 𝓤 (_≡_ {A = R × L} (r, l) (s, l)))
+  by-first {d = d} {r} {s} {φ} {ψ} = via 𝓤 _ (conj-mono 𝓤 (fst∗ 𝓤 (fact 𝓤 (r ≡ d)) (fact 𝓤 φ)) (fst∗ 𝓤 (fact 𝓤 (s ≡ d)) (fact 𝓤 ψ))) by-answer
+
   -- an answer and the lent chip
   pub by-chip : {R C L : Type 0} {d r s : R} {e b c : C} {l : L} →
       ent 𝓤 (conj 𝓤 (fact 𝓤 ((r ≡ d) × (b ≡ e))) (fact 𝓤 ((s ≡ d) × (c ≡ e)))) (fact 𝓤 (_≡_ {A = R × (C × L)} (r, (b, l)) (s, (c, l))))

@@ -18,14 +18,22 @@ use Rattle.dump_lines.proofs.rate_line_no as rate-line-no
 use Rattle.dump_lines.proofs.words_line_no as words-line-no
 use Rattle.dump_lines.proofs.frames_line_no as frames-line-no
 use Rattle.dump_lines.proofs.frame_at as frame-at
+use Rattle.dump_frames.proofs.load_frame as load-frame
 use Rattle.dump_frames.proofs.play_frame as play-frame
 use Rattle.text_put.proofs.put_bytes as put-bytes
 use Rattle.text_put.proofs.put_number as put-number
 use Rattle.text_put.proofs.put_decimal as put-decimal
 use Rattle.text_put.proofs.put_hex as put-hex
 use Rattle.dump_words.proofs.put_words as put-words
-use Rattle.dump_output.proofs.refusal
-use Rattle.dump_output.proofs.total
+use Rattle.dump_output.proofs.put_first_line as put-first-line
+use Rattle.dump_progress.proofs.first_line_given as first-line-given
+use Rattle.dump_progress.proofs.frame_due as frame-due
+use Rattle.dump_progress.proofs.frame_begins as frame-begins
+use Rattle.dump_progress.proofs.words_for as words-for
+use Rattle.dump_progress.proofs.words_given as words-given
+use Rattle.dump_player.proofs.start
+use Rattle.dump_player.proofs.next_piece as next-piece
+use Rattle.dump_input.proofs.room
 use Rattle.c_interface.proofs.ym2149_play as ym2149-play
 use Rattle.c_interface.proofs.ym2149_play_blocks as ym2149-play-blocks
 use Rattle.c_interface.proofs.ym2149_play_writes as ym2149-play-writes
@@ -51,14 +59,22 @@ pub record Played : Type 2 where
   pub words-line-no : Settles words-line-no.ended (λ M. words-line-no.clauses)
   pub frames-line-no : Settles frames-line-no.ended (λ M. frames-line-no.clauses)
   pub frame-at : Settles frame-at.ended (λ M. frame-at.clauses)
+  pub load-frame : Settles load-frame.ended (λ M. load-frame.clauses)
   pub play-frame : Settles play-frame.ended (λ M. play-frame.clauses)
   pub put-bytes : Settles put-bytes.ended (λ M. put-bytes.clauses)
   pub put-number : Settles put-number.ended (λ M. put-number.clauses)
   pub put-decimal : Settles put-decimal.ended (λ M. put-decimal.clauses)
   pub put-hex : Settles put-hex.ended (λ M. put-hex.clauses)
   pub put-words : Settles put-words.ended (λ M. put-words.clauses)
-  pub refusal : Settles refusal.ended (λ M. refusal.clauses)
-  pub total : Settles total.ended (λ M. total.clauses)
+  pub put-first-line : Settles put-first-line.ended (λ M. put-first-line.clauses)
+  pub first-line-given : Settles first-line-given.ended (λ M. first-line-given.clauses)
+  pub frame-due : Settles frame-due.ended (λ M. frame-due.clauses)
+  pub frame-begins : Settles frame-begins.ended (λ M. frame-begins.clauses)
+  pub words-for : Settles words-for.ended (λ M. words-for.clauses)
+  pub words-given : Settles words-given.ended (λ M. words-given.clauses)
+  pub start : Settles start.ended (λ M. start.clauses)
+  pub next-piece : Settles next-piece.ended (λ M. next-piece.clauses)
+  pub room : Settles room.ended (λ M. room.clauses)
   pub ym2149-play : Settles ym2149-play.ended (λ M. ym2149-play.clauses)
   pub ym2149-play-blocks : Settles ym2149-play-blocks.ended (λ M. ym2149-play-blocks.clauses)
   pub ym2149-play-writes : Settles ym2149-play-writes.ended (λ M. ym2149-play-writes.clauses)
