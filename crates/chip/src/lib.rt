@@ -1,18 +1,12 @@
 // The chip's record, and the test of one that is handed in, refusal 22. 01, "What changes shape".
 ghost use mathlib.Core.Path.{_≡_};
-ghost use Prim.Native.Nat.{_<_};
 ghost use Rattle.refusals.specs.Numbers.{accepted};
 ghost use Rattle.clocks.specs.Clocks.{clocksNo};
 ghost use Rattle.chip.specs.Clocks.{clocksOf};
-ghost use Rattle.chip.specs.Range.{clocksIn, bytesIn, toneIn, noiseIn, allOrNone, envelopeIn, generatorsIn, gatesIn, voiceIn, coreIn, chipIn};
-use envelope::Envelope;
-use gates::Gates;
-use generators::Generators;
-use noise::Noise;
+ghost use Rattle.chip.specs.Range.{clocksIn, coreIn, chipIn};
 use queue::Queue;
 use registers::Voice;
 use three_channels::Channels;
-use tone::Tone;
 
 // Accepted clocks and their quotients: the internal clock is a tick's, and `cycles` are the CPU's in a word.
 pub struct Clocks {
@@ -69,7 +63,7 @@ fn core_in(core: Core) -> bool
     if !clocks_in(core.clocks, core.accumulator) {
         return false;
     }
-    if !voice_in(core.voice) {
+    if !voice_range::voice_in(core.voice) {
         return false;
     }
     if core.selected > 15 {
@@ -91,128 +85,6 @@ fn clocks_in(clocks: Clocks, accumulator: u32) -> bool
         return false;
     }
     if accumulator >= clocks.rate {
-        return false;
-    }
-    true
-}
-
-fn voice_in(voice: Voice) -> bool
-    ensures { λ r. ⌜ r ≡ voiceIn voice ⌝ }
-{
-    let registers = voice.registers;
-    if !bytes_in(registers) {
-        return false;
-    }
-    if !generators_in(voice.generators) {
-        return false;
-    }
-    if !gates_in(voice.gates) {
-        return false;
-    }
-    true
-}
-
-fn bytes_in(registers: [u8; 14]) -> bool
-    ensures { λ r. ⌜ r ≡ bytesIn registers ⌝ }
-{
-    let mut i: usize = 0;
-    while i < 14 {
-        if registers[i] > tables::register_mask(i) {
-            return false;
-        }
-        i = i + 1;
-    }
-    true
-}
-
-fn generators_in(generators: Generators) -> bool
-    ensures { λ r. ⌜ r ≡ generatorsIn generators ⌝ }
-{
-    if !tone_in(generators.a, tone::BITS_A) {
-        return false;
-    }
-    if !tone_in(generators.b, tone::BITS_B) {
-        return false;
-    }
-    if !tone_in(generators.c, tone::BITS_C) {
-        return false;
-    }
-    if !noise_in(generators.noise) {
-        return false;
-    }
-    if !envelope_in(generators.envelope) {
-        return false;
-    }
-    true
-}
-
-fn tone_in(tone: Tone, bits: u32) -> bool
-    ensures { λ r. ⌜ r ≡ toneIn bits tone ⌝ }
-{
-    if tone.period > 4095 {
-        return false;
-    }
-    if tone.edges & bits != tone.edges {
-        return false;
-    }
-    true
-}
-
-fn noise_in(noise: Noise) -> bool
-    ensures { λ r. ⌜ r ≡ noiseIn noise ⌝ }
-{
-    if noise.period > 31 {
-        return false;
-    }
-    if noise.register < 1 {
-        return false;
-    }
-    if noise.register > 131_071 {
-        return false;
-    }
-    if !all_or_none(noise.output) {
-        return false;
-    }
-    true
-}
-
-fn all_or_none(output: u32) -> bool
-    ensures { λ r. ⌜ r ≡ allOrNone output ⌝ }
-{
-    if output == 0 {
-        return true;
-    }
-    if output == 0xffff_ffff {
-        return true;
-    }
-    false
-}
-
-fn envelope_in(envelope: Envelope) -> bool
-    ensures { λ r. ⌜ r ≡ envelopeIn envelope ⌝ }
-{
-    if envelope.position < envelope::START {
-        return false;
-    }
-    if envelope.position > 63 {
-        return false;
-    }
-    if envelope.offset % 128 != 0 {
-        return false;
-    }
-    if envelope.offset > 1152 {
-        return false;
-    }
-    true
-}
-
-fn gates_in(gates: Gates) -> bool
-    ensures { λ r. ⌜ r ≡ gatesIn gates ⌝ }
-{
-    if gates.tone > 0x7fff {
-        return false;
-    }
-    if gates.noise > 0x7fff {
         return false;
     }
     true

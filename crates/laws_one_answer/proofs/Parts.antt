@@ -77,6 +77,7 @@ parts =
       master-no = λ h x y. by-answer (h .𝓤);
       rate-no = λ h x y. by-answer (h .𝓤);
       clocks-of = λ h x y. by-answer (h .𝓤);
+      voice-in = λ h x y. by-answer (h .𝓤);
       in-range = λ h x y. by-answer (h .𝓤);
       accepted = λ h x y. by-answer (h .𝓤);
       refused = λ h x y. by-answer (h .𝓤);

@@ -73,6 +73,7 @@ use Rattle.clocks.proofs.clocks_no as clocks-no
 use Rattle.clocks.proofs.master_no as master-no
 use Rattle.clocks.proofs.rate_no as rate-no
 use Rattle.chip.proofs.clocks_of as clocks-of
+use Rattle.voice_range.proofs.voice_in as voice-in
 use Rattle.chip.proofs.in_range as in-range
 use Rattle.answers.proofs.accepted
 use Rattle.answers.proofs.refused
@@ -157,6 +158,7 @@ pub record Parts : Type 2 where
   pub master-no : Settles master-no.ended (λ M. master-no.clauses)
   pub rate-no : Settles rate-no.ended (λ M. rate-no.clauses)
   pub clocks-of : Settles clocks-of.ended (λ M. clocks-of.clauses)
+  pub voice-in : Settles voice-in.ended (λ M. voice-in.clauses)
   pub in-range : Settles in-range.ended (λ M. in-range.clauses)
   pub accepted : Settles accepted.ended (λ M. accepted.clauses)
   pub refused : Settles refused.ended (λ M. refused.clauses)

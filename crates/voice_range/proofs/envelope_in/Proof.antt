@@ -1,9 +1,9 @@
--- `chip::envelope_in` meets its contract. Assumes nothing.
+-- `voice_range::envelope_in` meets its contract. Assumes nothing.
 use Rattle.laws.proofs.Tests.{tests}
-use Rattle.chip.specs.Range.{envelopeIn}
-use Rattle.chip.proofs.Verdicts.{positions}
-use Rattle.chip.proofs.envelope_in.Statement.{statement}
-use Rattle.chip.proofs.envelope_in.Tie as tie
+use Rattle.voice_range.specs.Range.{envelopeIn}
+use Rattle.voice_range.proofs.Positions.{positions}
+use Rattle.voice_range.proofs.envelope_in.Statement.{statement}
+use Rattle.voice_range.proofs.envelope_in.Tie as tie
 
 returns : tie.Need-returns
 unfolding envelopeIn

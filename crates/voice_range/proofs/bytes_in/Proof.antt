@@ -1,9 +1,9 @@
--- `chip::bytes_in` meets its contract: the invariant and its steps are laws of `proofs/Bytes.antt`. Assumes nothing.
+-- `voice_range::bytes_in` meets its contract: the invariant and its steps are laws of `proofs/Bytes.antt`. Assumes nothing.
 use Prim.Native.Nat.{_-_}
 use native.Mathlib.Omega.{arith}
-use Rattle.chip.proofs.Bytes.{Testing, testing-start, testing-on, testing-wide, testing-end}
-use Rattle.chip.proofs.bytes_in.Statement.{statement}
-use Rattle.chip.proofs.bytes_in.Tie as tie
+use Rattle.voice_range.proofs.Bytes.{Testing, testing-start, testing-on, testing-wide, testing-end}
+use Rattle.voice_range.proofs.bytes_in.Statement.{statement}
+use Rattle.voice_range.proofs.bytes_in.Tie as tie
 
 abbrev Inv-loop : tie.InvT-loop
 Inv-loop registers i₀ i = Testing registers i

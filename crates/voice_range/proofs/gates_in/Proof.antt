@@ -1,8 +1,8 @@
--- `chip::gates_in` meets its contract. Assumes nothing.
+-- `voice_range::gates_in` meets its contract. Assumes nothing.
 use Rattle.laws.proofs.Tests.{tests}
-use Rattle.chip.specs.Range.{gatesIn}
-use Rattle.chip.proofs.gates_in.Statement.{statement}
-use Rattle.chip.proofs.gates_in.Tie as tie
+use Rattle.voice_range.specs.Range.{gatesIn}
+use Rattle.voice_range.proofs.gates_in.Statement.{statement}
+use Rattle.voice_range.proofs.gates_in.Tie as tie
 
 returns : tie.Need-returns
 unfolding gatesIn

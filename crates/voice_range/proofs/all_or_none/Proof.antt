@@ -1,8 +1,8 @@
--- `chip::all_or_none` meets its contract. Assumes nothing.
+-- `voice_range::all_or_none` meets its contract. Assumes nothing.
 use Rattle.laws.proofs.Tests.{tests}
-use Rattle.chip.specs.Range.{allOrNone}
-use Rattle.chip.proofs.all_or_none.Statement.{statement}
-use Rattle.chip.proofs.all_or_none.Tie as tie
+use Rattle.voice_range.specs.Range.{allOrNone}
+use Rattle.voice_range.proofs.all_or_none.Statement.{statement}
+use Rattle.voice_range.proofs.all_or_none.Tie as tie
 
 returns : tie.Need-returns
 unfolding allOrNone

@@ -1,8 +1,8 @@
--- `chip::tone_in` meets its contract. Assumes nothing.
+-- `voice_range::tone_in` meets its contract. Assumes nothing.
 use Rattle.laws.proofs.Tests.{tests}
-use Rattle.chip.specs.Range.{toneIn}
-use Rattle.chip.proofs.tone_in.Statement.{statement}
-use Rattle.chip.proofs.tone_in.Tie as tie
+use Rattle.voice_range.specs.Range.{toneIn}
+use Rattle.voice_range.proofs.tone_in.Statement.{statement}
+use Rattle.voice_range.proofs.tone_in.Tie as tie
 
 returns : tie.Need-returns
 unfolding toneIn

@@ -1,9 +1,9 @@
--- `chip::noise_in` meets its contract. Assumes nothing.
+-- `voice_range::noise_in` meets its contract. Assumes nothing.
 use Rattle.laws.proofs.Tests.{tests, calls}
-use Rattle.chip.specs.Range.{noiseIn}
+use Rattle.voice_range.specs.Range.{noiseIn}
 use borrow.Author.Needs.{needs}
-use Rattle.chip.proofs.noise_in.Statement.{statement}
-use Rattle.chip.proofs.noise_in.Tie as tie
+use Rattle.voice_range.proofs.noise_in.Statement.{statement}
+use Rattle.voice_range.proofs.noise_in.Tie as tie
 
 returns : tie.Need-returns
 unfolding noiseIn

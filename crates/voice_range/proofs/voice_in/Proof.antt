@@ -1,9 +1,9 @@
--- `chip::voice_in` meets its contract. Assumes nothing.
+-- `voice_range::voice_in` meets its contract. Assumes nothing.
 use Rattle.laws.proofs.Tests.{tests, calls}
-use Rattle.chip.specs.Range.{voiceIn}
+use Rattle.voice_range.specs.Range.{voiceIn}
 use borrow.Author.Needs.{needs}
-use Rattle.chip.proofs.voice_in.Statement.{statement}
-use Rattle.chip.proofs.voice_in.Tie as tie
+use Rattle.voice_range.proofs.voice_in.Statement.{statement}
+use Rattle.voice_range.proofs.voice_in.Tie as tie
 
 bytes-in-requires : tie.Need-bytes-in-requires
 bytes-in-requires c κs = search needs

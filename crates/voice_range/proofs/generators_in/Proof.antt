@@ -1,9 +1,9 @@
--- `chip::generators_in` meets its contract. Assumes nothing.
+-- `voice_range::generators_in` meets its contract. Assumes nothing.
 use Rattle.laws.proofs.Tests.{tests, calls}
-use Rattle.chip.specs.Range.{generatorsIn}
+use Rattle.voice_range.specs.Range.{generatorsIn}
 use borrow.Author.Needs.{needs}
-use Rattle.chip.proofs.generators_in.Statement.{statement}
-use Rattle.chip.proofs.generators_in.Tie as tie
+use Rattle.voice_range.proofs.generators_in.Statement.{statement}
+use Rattle.voice_range.proofs.generators_in.Tie as tie
 
 tone-in-requires : tie.Need-tone-in-requires
 tone-in-requires c κs = search needs

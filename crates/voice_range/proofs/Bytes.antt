@@ -10,7 +10,7 @@ use lib.ListN.{getD}
 use Rattle.laws.proofs.Lists.{parts-below, below-fails}
 use Rattle.laws.proofs.Tests.{by-same}
 use Rattle.tables.specs.Masks.{registerMask}
-use Rattle.chip.specs.Range.{bytesIn}
+use Rattle.voice_range.specs.Range.{bytesIn}
 
 -- the test of one byte
 abbrev within : List ℕ → ℕ → Bool
