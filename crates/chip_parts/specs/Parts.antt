@@ -25,7 +25,7 @@ atStart clocks voice channels =
       queue = empty;
     }
 
--- the registers, generators and gates of a chip
+-- the registers, generators, gates and IRQ flag of a chip
 abbrev pub voiceOf : Chip → Voice
 voiceOf c = c .core .voice
 

@@ -1,4 +1,4 @@
-// Decimals and hex digits in a text. Nothing here knows what the text is for.
+// Decimals and hex digits in a text. Of a dump they have 01's limits, 10 digits and lower-case hex, and nothing else.
 ghost use mathlib.Core.Path.{_≡_};
 ghost use mathlib.Core.Bool.{true};
 ghost use Prim.Native.Nat.{_+_, _*_, _<_};
