@@ -20,6 +20,7 @@ DECLARED = re.compile(r"\b(?:struct|enum) (\w+)")
 FIELD = re.compile(r"(?:pub )?(\w+): ([^,\n]+)")
 ITEM = re.compile(r"^impl\b(?:<.*?>)? (?:\S+ for )?(\w+)|^\}|\bfn (\w+)(?:<.*?>)?\((.*?)\)(?: -> ([^{;]*?))?\s*(?=requires|ensures|decreases|\{|;)", re.M | re.S)
 MAKING = re.compile(r"\bfn (\w+)|(?<!struct )(?<!impl )(?<!enum )(?<!-> )(?<!for )\b((?:\w+::)?[A-Z]\w*) *\{")
+HANDED_ON = re.compile(r"^pub use (\w+)::([a-z]\w*);", re.M)
 CONTRACT = re.compile(r"\b(?:requires|ensures|decreases|invariant)(?: \w+)?\s*\{")
 
 
@@ -62,6 +63,7 @@ class Sources:
         self.listed = listed
         self.code = {crate: code_of_crate(crate) for crate in listed}
         self.own = {crate: set(DECLARED.findall(code)) for crate, code in self.code.items()}
+        self.handed = {(crate, name): home for crate, code in self.code.items() for home, name in HANDED_ON.findall(code)}
         self.fields, self.calls = {}, {}
         for crate in listed:
             self.read(crate)
@@ -86,6 +88,10 @@ class Sources:
                 found.add((home, name))
         return found
 
+    def home(self, crate, name):
+        """The crate that declares a function which a crate has, its own or handed on by `pub use`."""
+        return self.home(self.handed[crate, name], name) if (crate, name) in self.handed else crate
+
     def within(self, kind):
         """A type and all that lie within it."""
         found = {kind}
@@ -101,7 +107,7 @@ class Sources:
         reached = set(re.findall(r"\.(\w+)\b(?! *\()", code))
         methods = set(re.findall(r"\.(\w+) *\(", code))
         called = re.findall(r"\b(\w+)::(\w+) *\(", code) + re.findall(r"^(?:pub )?use (\w+)::([a-z]\w*);", code, re.M)
-        found |= {kind for home, name in called for where, _, kinds in self.calls.get(name, ()) if where == home for kind in kinds}
+        found |= {kind for home, name in called for where, _, kinds in self.calls.get(name, ()) if where == self.home(home, name) for kind in kinds}
         while True:
             more = {kind for held in found for field, kinds in self.fields.get(held, {}).items() if field in reached for kind in kinds}
             for home, owner in found:
