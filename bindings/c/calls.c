@@ -1,0 +1,135 @@
+/* Every call of ym2149.h once or more, on 01's cases where it gives some. Says which answers differ; status 1 if any does. */
+#include <stdio.h>
+#include <string.h>
+
+#include "ym2149.h"
+
+static int failures;
+
+static void expect(bool holds, const char *what, int line)
+{
+    if (!holds) {
+        printf("calls: line %d: not so: %s\n", line, what);
+        failures++;
+    }
+}
+#define EXPECT(what) expect(what, #what, __LINE__)
+
+static struct ym2149 made(void)
+{
+    struct ym2149 chip = {0};
+    EXPECT(ym2149_new(&chip) == YM2149_ACCEPTED);
+    return chip;
+}
+
+static void making(void)
+{
+    struct ym2149 chip = {0}, fresh = made();
+    EXPECT(ym2149_with_clocks(&chip, 1073741824, 0) == YM2149_MASTER_TOO_HIGH);
+    EXPECT(ym2149_with_clocks(&chip, 2000000, 0) == YM2149_RATE_ZERO);
+    EXPECT(ym2149_with_clocks(&chip, 1073741823, 134217727) == YM2149_ACCEPTED);
+    EXPECT(chip.core.clocks.master == 1073741823 && chip.core.clocks.rate == 134217727);
+    EXPECT(ym2149_with_clocks(&chip, 2000000, 250001) == YM2149_RATE_TOO_HIGH);
+    EXPECT(chip.core.clocks.master == 2000000 && chip.core.clocks.rate == 44100 && fresh.core.clocks.rate == 44100);
+
+    struct ym2149 zeros = {0};
+    EXPECT(ym2149_reset(&zeros) == YM2149_OUT_OF_RANGE);
+}
+
+static void registers(void)
+{
+    struct ym2149 chip = made();
+    struct ym2149_registers all = {{0x1c, 0xff, 0x7b, 0, 5, 0, 0xff, 0, 0x0f, 0x10, 0xff, 0x30, 0, 0xfe, 1, 2}};
+    static const uint8_t stored[16] = {0x1c, 0x0f, 0x7b, 0, 5, 0, 0x1f, 0, 0x0f, 0x10, 0x1f, 0x30, 0, 0x0e, 0, 0};
+    EXPECT(ym2149_load_registers(&chip, all) == YM2149_ACCEPTED);
+    struct ym2149_bytes dumped = ym2149_dump_registers(&chip);
+    EXPECT(dumped.no == YM2149_ACCEPTED && memcmp(dumped.bytes, stored, sizeof stored) == 0);
+    EXPECT(ym2149_write_register(&chip, 8, 0xff) == YM2149_ACCEPTED);
+    struct ym2149_byte read = ym2149_read_register(&chip, 8);
+    EXPECT(read.no == YM2149_ACCEPTED && read.value == 0x1f);
+    EXPECT(ym2149_write_register(&chip, 14, 1) == YM2149_ACCEPTED && ym2149_read_register(&chip, 14).value == 0);
+    EXPECT(ym2149_set_channel_mute(&chip, 2, true) == YM2149_ACCEPTED);
+    EXPECT(ym2149_reset(&chip) == YM2149_ACCEPTED);
+    EXPECT(ym2149_read_register(&chip, 6).value == 0 && ym2149_read_register(&chip, 7).value == 0x3f);
+    EXPECT(chip.core.voice.generators.noise.period == 31 && ym2149_is_channel_muted(&chip, 2).yes);
+}
+
+static void ports(void)
+{
+    struct ym2149 chip = made();
+    EXPECT(ym2149_write_port(&chip, 0, 14) == YM2149_ACCEPTED);
+    struct ym2149_byte read = ym2149_read_port(&chip, 0);
+    EXPECT(read.no == YM2149_ACCEPTED && read.value == 0xff);
+    EXPECT(ym2149_write_port(&chip, 0, 8) == YM2149_ACCEPTED && ym2149_write_port(&chip, 2, 9) == YM2149_ACCEPTED);
+    struct ym2149_count waiting = ym2149_pending_write_count(&chip);
+    EXPECT(waiting.no == YM2149_ACCEPTED && waiting.count == 1 && ym2149_read_port(&chip, 0).value == 0);
+    EXPECT(ym2149_flush_pending_writes(&chip) == YM2149_ACCEPTED);
+    EXPECT(ym2149_pending_write_count(&chip).count == 0 && ym2149_read_port(&chip, 0).value == 9);
+    EXPECT(ym2149_write_port_immediate(&chip, 2, 5) == YM2149_ACCEPTED && ym2149_read_register(&chip, 8).value == 5);
+    for (int i = 0; i < 256; i++)
+        EXPECT(ym2149_write_port(&chip, 2, 1) == YM2149_ACCEPTED);
+    EXPECT(ym2149_write_port(&chip, 2, 1) == YM2149_QUEUE_FULL && ym2149_pending_write_count(&chip).count == 256);
+}
+
+static void cycles(void)
+{
+    struct ym2149 chip = made();
+    EXPECT(ym2149_set_cpu_cycle(&chip, 500) == YM2149_ACCEPTED);
+    struct ym2149_cycle at = ym2149_cpu_cycle(&chip);
+    EXPECT(at.no == YM2149_ACCEPTED && at.cycle == 500);
+    EXPECT(ym2149_sync_sample_cycle(&chip, UINT64_MAX) == YM2149_ACCEPTED && chip.core.start == UINT64_MAX);
+    struct ym2149_sample late = ym2149_compute_next_sample(&chip);
+    EXPECT(late.no == YM2149_BLOCK_TOO_LATE && late.word == 0 && late.ticks == 0);
+}
+
+static void effects(void)
+{
+    struct ym2149 chip = made();
+    uint32_t edges = chip.core.voice.generators.b.edges;
+    EXPECT(ym2149_set_timer_irq_state(&chip, true) == YM2149_ACCEPTED && ym2149_write_register(&chip, 2, 1) == YM2149_ACCEPTED);
+    EXPECT(chip.core.voice.irq && chip.core.voice.generators.b.pending);
+    EXPECT(ym2149_inside_timer_irq(&chip, false) == YM2149_ACCEPTED);
+    EXPECT(chip.core.voice.generators.b.edges == (edges ^ 0x3e0));
+    EXPECT(ym2149_trigger_envelope(&chip) == YM2149_ACCEPTED && chip.core.voice.generators.envelope.position == -64);
+}
+
+static void channels(void)
+{
+    struct ym2149 chip = made();
+    struct ym2149_drum drum = {true, 8.0f};
+    EXPECT(ym2149_set_channel_mute(&chip, 1, true) == YM2149_ACCEPTED && ym2149_set_channel_mute(&chip, 2, true) == YM2149_ACCEPTED);
+    struct ym2149_flag muted = ym2149_is_channel_muted(&chip, 1);
+    EXPECT(muted.no == YM2149_ACCEPTED && muted.yes && !ym2149_is_channel_muted(&chip, 3).yes);
+    EXPECT(ym2149_set_drum_sample_override(&chip, 0, drum) == YM2149_ACCEPTED);
+    EXPECT(ym2149_compute_next_sample(&chip).word == 10922);
+    struct ym2149_outputs outputs = ym2149_get_channel_outputs(&chip);
+    EXPECT(outputs.no == YM2149_ACCEPTED && outputs.a == 1.0f && outputs.b == 0.0f && outputs.c == 0.0f);
+    drum.on = false;
+    EXPECT(ym2149_set_drum_sample_override(&chip, 0, drum) == YM2149_ACCEPTED && ym2149_compute_next_sample(&chip).word == 25);
+    EXPECT(ym2149_set_channel_mute(&chip, 3, false) == YM2149_NO_SUCH_CHANNEL);
+    EXPECT(ym2149_set_drum_sample_override(&chip, SIZE_MAX, drum) == YM2149_NO_SUCH_CHANNEL);
+}
+
+static void words(void)
+{
+    struct ym2149 chip = made();
+    uint16_t out[3];
+    struct ym2149_sample first = ym2149_compute_next_sample(&chip);
+    EXPECT(first.no == YM2149_ACCEPTED && first.word == 75 && first.ticks == 6);
+    struct ym2149_played played = ym2149_block(&chip, out, 3);
+    EXPECT(played.no == YM2149_ACCEPTED && played.words == 3 && played.ticks == 17);
+    EXPECT(chip.core.accumulator == 14300 && out[0] == 75 && out[2] == 75);
+    EXPECT(ym2149_block(&chip, out, 0).no == YM2149_ACCEPTED);
+}
+
+int main(void)
+{
+    making();
+    registers();
+    ports();
+    cycles();
+    effects();
+    channels();
+    words();
+    return failures != 0;
+}
