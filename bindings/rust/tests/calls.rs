@@ -1,0 +1,209 @@
+//! Every call once or more through the linked library, on 01's cases where it gives some.
+
+use std::mem::size_of;
+use ym2149_proved::calls::*;
+use ym2149_proved::{Chip, Record, Refusal, Word};
+
+const BUSY: [u8; 16] = [0x1c, 0xff, 0x7b, 0, 5, 0, 0xff, 0, 0x0f, 0x10, 0xff, 0x30, 0, 0xfe, 1, 2];
+
+fn waiting_256() -> Chip {
+    let mut chip = Chip::new();
+    assert!((0..256).all(|_| chip.write_port(2, 1) == Ok(())));
+    chip
+}
+
+fn out_of_range() -> Chip {
+    let mut record = *Chip::new().record();
+    record.core.selected = 16;
+    Chip::from_record(record)
+}
+
+#[test]
+fn default_clocks_take_6_6_6_5_ticks() {
+    let mut chip = Chip::new();
+    assert_eq!(chip.compute_next_sample(), Ok(Word { word: 75, ticks: 6 }));
+    assert_eq!([0; 3].map(|_| chip.compute_next_sample().unwrap().ticks), [6, 6, 5]);
+    assert_eq!(chip.record().core.accumulator, 14_300);
+    assert_eq!((chip.record().core.clocks.master, chip.record().core.clocks.rate), (2_000_000, 44_100));
+}
+
+#[test]
+fn refused_clocks_give_their_number() {
+    assert_eq!(Chip::with_clocks(1_073_741_824, 0), Err(Refusal::MASTER_TOO_HIGH));
+    assert_eq!(Chip::with_clocks(2_000_000, 0), Err(Refusal::RATE_ZERO));
+    assert_eq!(Chip::with_clocks(2_000_000, 250_001), Err(Refusal::RATE_TOO_HIGH));
+    assert_eq!(Chip::with_clocks(7, 1), Err(Refusal::RATE_TOO_HIGH));
+    assert!(Chip::with_clocks(1_073_741_823, 134_217_727).is_ok());
+}
+
+#[test]
+fn refused_clocks_leave_a_fresh_default_chip() {
+    let mut record = *Chip::with_clocks(2_000_000, 250_000).unwrap().record();
+    assert_eq!(unsafe { ym2149_with_clocks(&mut record, 2_000_000, 250_001) }, 3);
+    assert_eq!(Chip::from_record(record), Chip::new());
+}
+
+#[test]
+fn bytes_are_masked_and_stored() {
+    let mut chip = Chip::new();
+    assert_eq!(chip.load_registers(BUSY), Ok(()));
+    assert_eq!(chip.dump_registers(), Ok([0x1c, 0x0f, 0x7b, 0, 5, 0, 0x1f, 0, 0x0f, 0x10, 0x1f, 0x30, 0, 0x0e, 0, 0]));
+    assert_eq!(chip.write_register(8, 0xff), Ok(()));
+    assert_eq!((chip.read_register(8), chip.read_register(14)), (Ok(0x1f), Ok(0)));
+    assert_eq!(chip.write_register(14, 1), Ok(()));
+}
+
+#[test]
+fn a_data_write_waits_until_the_flush() {
+    let mut chip = Chip::new();
+    assert_eq!(chip.write_port(0, 14), Ok(()));
+    assert_eq!(chip.read_port(0), Ok(0xff));
+    assert_eq!((chip.write_port(0, 8), chip.write_port(2, 9)), (Ok(()), Ok(())));
+    assert_eq!((chip.pending_write_count(), chip.read_port(0)), (Ok(1), Ok(0)));
+    assert_eq!(chip.flush_pending_writes(), Ok(()));
+    assert_eq!((chip.pending_write_count(), chip.read_port(0), chip.read_port(2)), (Ok(0), Ok(9), Ok(0xff)));
+    assert_eq!(chip.write_port_immediate(2, 5), Ok(()));
+    assert_eq!(chip.read_register(8), Ok(5));
+}
+
+#[test]
+fn write_257_is_refused() {
+    let mut chip = waiting_256();
+    assert_eq!(chip.write_port(2, 1), Err(Refusal::QUEUE_FULL));
+    assert_eq!(chip.pending_write_count(), Ok(256));
+}
+
+#[test]
+fn stamps_500_then_100() {
+    let mut chip = Chip::new();
+    for (stamp, register) in [(500, 8), (100, 9)] {
+        assert_eq!(chip.set_cpu_cycle(stamp), Ok(()));
+        assert_eq!(chip.cpu_cycle(), Ok(stamp));
+        assert_eq!((chip.write_port(0, register), chip.write_port(2, 7)), (Ok(()), Ok(())));
+    }
+    assert_eq!([0; 3].map(|_| (chip.compute_next_sample().is_ok(), chip.pending_write_count())), [(true, Ok(2)), (true, Ok(2)), (true, Ok(0))]);
+    assert_eq!(chip.record().core.start, 543);
+}
+
+#[test]
+fn the_irq_ends_and_a_pending_channel_flips() {
+    let mut chip = Chip::new();
+    let edges = chip.record().core.voice.generators.b.edges;
+    assert_eq!((chip.set_timer_irq_state(true), chip.write_register(2, 1)), (Ok(()), Ok(())));
+    assert!(chip.record().core.voice.irq && chip.record().core.voice.generators.b.pending);
+    assert_eq!(chip.inside_timer_irq(false), Ok(()));
+    assert_eq!(chip.record().core.voice.generators.b.edges, edges ^ 0x3e0);
+}
+
+#[test]
+fn the_envelope_restarts_at_minus_64() {
+    let mut chip = Chip::new();
+    assert_eq!(chip.record().core.voice.generators.envelope.position, 0);
+    assert_eq!(chip.trigger_envelope(), Ok(()));
+    assert_eq!(chip.record().core.voice.generators.envelope.position, -64);
+}
+
+#[test]
+fn drums_and_mutes() {
+    let mut chip = Chip::new();
+    assert_eq!((chip.set_channel_mute(1, true), chip.set_channel_mute(2, true)), (Ok(()), Ok(())));
+    assert_eq!([0, 1, 2, 3, usize::MAX].map(|channel| chip.is_channel_muted(channel)), [Ok(false), Ok(true), Ok(true), Ok(false), Ok(false)]);
+    assert_eq!(chip.set_drum_sample_override(0, Some(1.0)), Ok(()));
+    assert_eq!(chip.compute_next_sample().map(|word| word.word), Ok(2730));
+    assert_eq!(chip.set_drum_sample_override(0, Some(8.0)), Ok(()));
+    assert_eq!(chip.compute_next_sample().map(|word| word.word), Ok(10_922));
+    assert_eq!(chip.get_channel_outputs(), Ok([1.0, 0.0, 0.0]));
+    assert_eq!(chip.set_drum_sample_override(0, None), Ok(()));
+    assert_eq!(chip.compute_next_sample().map(|word| word.word), Ok(25));
+    assert_eq!(chip.set_channel_mute(3, false), Err(Refusal::NO_SUCH_CHANNEL));
+    assert_eq!(chip.set_drum_sample_override(usize::MAX, None), Err(Refusal::NO_SUCH_CHANNEL));
+}
+
+#[test]
+fn reset_keeps_mutes_and_the_noise_period() {
+    let mut chip = Chip::new();
+    assert_eq!((chip.set_channel_mute(2, true), chip.write_register(6, 31)), (Ok(()), Ok(())));
+    assert_eq!(chip.reset(), Ok(()));
+    assert_eq!((chip.is_channel_muted(2), chip.read_register(6), chip.read_register(7)), (Ok(true), Ok(0), Ok(0x3f)));
+    assert_eq!(chip.record().core.voice.generators.noise.period, 31);
+}
+
+#[test]
+fn blocks_and_their_limits() {
+    let mut chip = Chip::with_clocks(2_000_000, 250_000).unwrap();
+    let before = chip.clone();
+    assert_eq!(chip.block(&mut []), Ok(0));
+    assert_eq!(chip, before);
+    assert_eq!(chip.block(&mut vec![0; 65_536]), Ok(65_536));
+    assert_eq!(chip.block(&mut vec![0; 65_537]), Err(Refusal::BLOCK_TOO_LONG));
+    assert_eq!(chip.sync_sample_cycle(u64::MAX - 63), Ok(()));
+    assert_eq!(chip.block(&mut [0; 2]), Err(Refusal::BLOCK_TOO_LATE));
+    assert_eq!(chip.block(&mut [0; 1]), Ok(1));
+    assert_eq!(chip.compute_next_sample(), Err(Refusal::BLOCK_TOO_LATE));
+}
+
+#[test]
+fn a_record_out_of_range_is_refused_by_every_call() {
+    let mut chip = out_of_range();
+    let before = chip.clone();
+    let bad = Refusal::OUT_OF_RANGE;
+    assert_eq!((chip.reset(), chip.write_register(8, 1), chip.load_registers(BUSY)), (Err(bad), Err(bad), Err(bad)));
+    assert_eq!((chip.write_port(0, 1), chip.write_port_immediate(2, 1), chip.flush_pending_writes()), (Err(bad), Err(bad), Err(bad)));
+    assert_eq!((chip.set_cpu_cycle(1), chip.sync_sample_cycle(1), chip.trigger_envelope()), (Err(bad), Err(bad), Err(bad)));
+    assert_eq!((chip.set_timer_irq_state(true), chip.inside_timer_irq(true)), (Err(bad), Err(bad)));
+    assert_eq!((chip.set_channel_mute(3, true), chip.set_drum_sample_override(3, Some(1.0))), (Err(bad), Err(bad)));
+    assert_eq!((chip.read_register(8), chip.read_port(0), chip.dump_registers()), (Err(bad), Err(bad), Err(bad)));
+    assert_eq!((chip.cpu_cycle(), chip.pending_write_count(), chip.is_channel_muted(0)), (Err(bad), Err(bad), Err(bad)));
+    assert_eq!((chip.get_channel_outputs(), chip.compute_next_sample(), chip.block(&mut [7; 4])), (Err(bad), Err(bad), Err(bad)));
+    assert_eq!(chip, before);
+}
+
+#[test]
+fn a_record_of_zeros_is_out_of_range() {
+    let mut room = Room([0; ROOM]);
+    assert_eq!(unsafe { ym2149_reset(room.record()) }, 22);
+    assert!(room.0.iter().all(|&part| part == 0));
+}
+
+/// A record's bytes, those between the fields too.
+const ROOM: usize = size_of::<Record>() / 8;
+
+#[derive(Clone, PartialEq)]
+struct Room([u64; ROOM]);
+
+impl Room {
+    fn record(&mut self) -> *mut Record {
+        self.0.as_mut_ptr().cast()
+    }
+
+    /// A new chip with a mark of the host's between some fields: of the clocks, before the generators, of tone A, of channel A.
+    fn marked() -> Room {
+        let mut room = Room([0; ROOM]);
+        assert_eq!(unsafe { ym2149_new(room.record()) }, 0);
+        for gap in [12, 38, 49, 117] {
+            unsafe { *room.record().cast::<u8>().add(gap) = 0xa5 };
+        }
+        room
+    }
+}
+
+#[test]
+fn a_refused_call_changes_no_byte() {
+    let mut room = Room::marked();
+    let before = room.clone();
+    assert_eq!(unsafe { ym2149_set_channel_mute(room.record(), 3, true) }, 7);
+    assert!(room == before);
+    refused_block(&mut room, 65_537, 5);
+    unsafe { (*room.record()).core.selected = 16 };
+    let before = room.clone();
+    assert_eq!(unsafe { ym2149_write_register(room.record(), 8, 1) }, 22);
+    assert!(room == before);
+    refused_block(&mut room, 4, 22);
+}
+
+fn refused_block(room: &mut Room, words: usize, no: u8) {
+    let (before, mut out) = (room.clone(), vec![7; words]);
+    let played = unsafe { ym2149_block(room.record(), out.as_mut_ptr(), words) };
+    assert_eq!(played, Played { no, words: 0, ticks: 0 });
+    assert!(*room == before && out.iter().all(|&word| word == 7));
+}
