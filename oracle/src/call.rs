@@ -30,8 +30,9 @@ pub enum Call {
     Muted(u64),
     Drum(u64, Option<f32>),
     Outputs,
+    Word,
     Block(usize),
-    Lent,
+    Lent(bool),
     Set(Field, i128),
 }
 
@@ -66,9 +67,9 @@ pub fn read(line: &str) -> Option<Call> {
             Call::Drum(number(channel)?, Some(sample))
         }
         ["outputs"] => Call::Outputs,
-        ["word"] => Call::Block(1),
+        ["word"] => Call::Word,
         ["block", length] => Call::Block(number(length).filter(|length| *length <= LONGEST)?),
-        ["lent", on] => flag(on).map(|_| Call::Lent)?,
+        ["lent", on] => Call::Lent(flag(on)?),
         ["set", name, value] => {
             let (field, limits) = named(name)?;
             let value = match value.strip_prefix('-') {

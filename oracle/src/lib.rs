@@ -14,6 +14,7 @@ pub mod tables;
 
 pub mod call;
 pub mod dump;
+pub mod lines;
 pub mod range;
 pub mod refusal;
 pub mod ring;

@@ -1,9 +1,10 @@
 //! A script of calls: one call to a line, and for each its answer and the whole state, a line each.
 //! README.md has the form. Answers come from the crate; a refused call never reaches it.
 
-use crate::call::{self, Call};
+use crate::call::Call;
 use crate::chip::Ym2149;
 use crate::generators::ToneGenerator;
+use crate::lines;
 use crate::mixer::ChannelState;
 use crate::range;
 use crate::refusal::{self, ACCEPTED, BAD_RECORD};
@@ -36,18 +37,15 @@ impl Default for Bench {
 impl Bench {
     /// One line: a comment prints nothing, a call its answer and the state, anything else `bad`, and gives false.
     pub fn line(&mut self, line: &str, out: &mut String) -> bool {
-        if line.starts_with('#') {
-            return true;
-        }
-        let Some(call) = call::read(line) else {
-            out.push_str("bad\n");
-            return false;
-        };
+        lines::line(line, out, |call, out| self.called(call, out))
+    }
+
+    /// A call's answer and the state after it, a line each.
+    pub fn called(&mut self, call: Call, out: &mut String) {
         self.calls += 1;
         out.push_str(&self.answer(call));
         out.push('\n');
         self.state(out);
-        true
     }
 
     /// 01, "What changes shape".
@@ -60,7 +58,7 @@ impl Bench {
             Call::New(master, rate) => self.make(master, rate),
             Call::Default => self.make_default(ACCEPTED),
             Call::Waiting(place) => self.waiting(place),
-            Call::Lent => done(()),
+            Call::Lent(_) => done(()),
             Call::Set(field, value) => done(self.set(field, value)),
             // 01: "22 is checked before all else."
             _ if !self.in_range() => out_of_range(call),
@@ -100,8 +98,9 @@ impl Bench {
                 let (a, b, c) = chip.get_channel_outputs();
                 value(format!("{} {} {}", bits(a), bits(b), bits(c)))
             }
+            Call::Word => self.block(1),
             Call::Block(length) => self.block(length),
-            Call::New(..) | Call::Default | Call::Waiting(_) | Call::Lent | Call::Set(..) => unreachable!(),
+            Call::New(..) | Call::Default | Call::Waiting(_) | Call::Lent(_) | Call::Set(..) => unreachable!(),
         }
     }
 
@@ -175,23 +174,14 @@ impl Bench {
         let (_, _, cycles) = self.chip.clocks();
         let refusal = refusal::of_block(length, self.chip.start(), cycles);
         if refusal != ACCEPTED {
-            return format!("{refusal} 0 0");
+            return rendered(refusal, 0, &[]);
         }
         let before = self.chip.ticks();
         let words: Vec<u16> = (0..length).map(|_| self.chip.compute_next_sample()).collect();
         let ticks = self.chip.ticks() - before;
         self.words += length as u64;
         self.ticks += ticks;
-
-        let mut answer = format!("{refusal} {length} {ticks}");
-        if length <= WORDS_SHOWN {
-            for word in words {
-                write!(answer, " {word}").unwrap();
-            }
-        } else {
-            write!(answer, " {} {} {:08x}", words[0], words[length - 1], check(&words)).unwrap();
-        }
-        answer
+        rendered(refusal, ticks, &words)
     }
 
     fn state(&self, out: &mut String) {
@@ -243,18 +233,31 @@ fn out_of_range(call: Call) -> String {
         Call::Read(_) | Call::ReadPort(_) | Call::GetCycle | Call::Pending | Call::Muted(_) => " 0",
         Call::Dump => " 00000000000000000000000000000000",
         Call::Outputs => " 00000000 00000000 00000000",
-        Call::Block(_) => " 0 0",
+        Call::Word | Call::Block(_) => " 0 0",
         _ => "",
     };
     format!("{BAD_RECORD}{others}")
 }
 
-fn hex(bytes: &[u8]) -> String {
+/// What `word` and `block` answer.
+pub fn rendered(number: u8, ticks: u64, words: &[u16]) -> String {
+    let mut answer = format!("{number} {} {ticks}", words.len());
+    if words.len() <= WORDS_SHOWN {
+        for word in words {
+            write!(answer, " {word}").unwrap();
+        }
+    } else {
+        write!(answer, " {} {} {:08x}", words[0], words[words.len() - 1], check(words)).unwrap();
+    }
+    answer
+}
+
+pub fn hex(bytes: &[u8]) -> String {
     bytes.iter().map(|byte| format!("{byte:02x}")).collect()
 }
 
 /// The eight hex digits of an f32. Rattle has one NaN, so every NaN prints alike.
-fn bits(value: f32) -> String {
+pub fn bits(value: f32) -> String {
     let bits = if value.is_nan() { 0x7fc0_0000 } else { value.to_bits() };
     format!("{bits:08x}")
 }

@@ -46,6 +46,7 @@ impl Tally {
             Call::Drum(_, Some(sample)) => self.drum(sample),
             Call::New(..) | Call::Default | Call::Reset => self.moved = false,
             Call::Set(Field::Head | Field::Count, _) => self.moved = true,
+            Call::Word if bench.in_range() => self.block(1, bench),
             Call::Block(length) if bench.in_range() => self.block(length as u64, bench),
             _ => {}
         }
