@@ -10,31 +10,37 @@ pub struct Answered {
     pub no: u8,
 }
 
+#[repr(C)]
 pub struct Byte {
     pub no: u8,
     pub value: u8,
 }
 
+#[repr(C)]
 pub struct Bytes {
     pub no: u8,
     pub bytes: [u8; 16],
 }
 
+#[repr(C)]
 pub struct Cycle {
     pub no: u8,
     pub cycle: u64,
 }
 
+#[repr(C)]
 pub struct Count {
     pub no: u8,
     pub count: usize,
 }
 
+#[repr(C)]
 pub struct Flag {
     pub no: u8,
     pub yes: bool,
 }
 
+#[repr(C)]
 pub struct Outputs {
     pub no: u8,
     pub a: f32,
@@ -42,6 +48,7 @@ pub struct Outputs {
     pub c: f32,
 }
 
+#[repr(C)]
 pub struct Sample {
     pub no: u8,
     pub word: u16,
@@ -53,6 +60,7 @@ pub struct Sampled {
     pub answer: Sample,
 }
 
+#[repr(C)]
 pub struct Played {
     pub no: u8,
     pub words: usize,

@@ -1,96 +1,253 @@
-// For C and Rust to link (`rt staticlib c_interface`): registers played on a new chip into a lent buffer. Refused clocks play a default chip.
+// For C and Rust to link (`rt staticlib c_interface`): the calls of `cabinet` and of `cabinet_words` on a record that the host owns and
+// lends. Each answers 01's number, alone or as the first field of its answer. include/ym2149.h declares them.
+// Calls that only read take `&Record` and stand last.
 ghost use mathlib.Core.Path.{_≡_};
 ghost use lib.ListN.{length};
-ghost use Rattle.c_interface.specs.Exports.{blockTicks, blockWords, loadedChip, playedTicks, playedWords, queuedChip, repeatTicks, repeatWords, writeQueued};
-use chip::Chip;
+ghost use Rattle.answers.specs.Answers.{answered};
+ghost use Rattle.refusals.specs.Numbers.{accepted};
+ghost use Rattle.c_record.specs.Record.{chipOf, drumOf};
+ghost use Rattle.c_making.specs.Making.{newRecord};
+ghost use Rattle.c_words.specs.Words.{nextBlock, nextWord};
+ghost use Rattle.c_calls.specs.Calls.{onRecord};
+ghost use Rattle.calls_making.specs.Making.{fresh, resetCall, withClocks};
+ghost use Rattle.calls_registers.specs.Stored.{dumpRegisters, loadRegisters, readRegister, writeRegister};
+ghost use Rattle.calls_ports.specs.Ports.{readPort, writePort, writePortImmediate};
+ghost use Rattle.calls_cycles.specs.Cycles.{cpuCycle, flushPendingWrites, pendingWriteCount, setCpuCycle, syncSampleCycle};
+ghost use Rattle.calls_effects.specs.Effects.{setTimerIrqState, triggerEnvelope};
+ghost use Rattle.calls_channels.specs.ChannelCalls.{getChannelOutputs, isChannelMuted, setChannelMute, setDrumSampleOverride};
+ghost use Rattle.calls_words.specs.Blocks.{blockBuffer};
+use answers::Byte;
+use answers::Bytes;
+use answers::Count;
+use answers::Cycle;
+use answers::Flag;
+use answers::Outputs;
+use answers::Played;
+use answers::Sample;
+use c_record::Record;
+use c_record::RecordDrum;
+use c_record::Registers;
 
-// One block. Answers its ticks.
+// A default chip.
 #[no_mangle]
-pub extern "C" fn ym2149_play(master: u32, rate: u32, registers: &[u8; 16], out: &mut [u16]) -> u64
-    ensures ticks { λ r. ⌜ r ≡ playedTicks master rate (now (registers .entry)) (length (now (out .entry))) ⌝ }
-    ensures words { λ r. ⌜ now (out .exit) ≡ playedWords master rate (now (registers .entry)) (now (out .entry)) ⌝ }
+pub extern "C" fn ym2149_new(chip: &mut Record) -> u8
+    ensures { λ r. ⌜ (r ≡ newRecord (answered accepted fresh) .no) × (now (chip .exit) ≡ newRecord (answered accepted fresh) .chip) ⌝ }
 {
-    let chip = loaded(master, rate, *registers);
-    let played = calls_words::block(chip, out);
-    played.answer.ticks
+    let r = c_making::new();
+    *chip = r.chip;
+    r.no
 }
 
-// `count` blocks one after the other, each as long as the buffer, which keeps the last. Answers the last one's ticks.
+// Refused clocks give a fresh default chip.
 #[no_mangle]
-pub extern "C" fn ym2149_play_blocks(
-    master: u32,
-    rate: u32,
-    registers: &[u8; 16],
-    count: u32,
-    out: &mut [u16],
-) -> u64
-    ensures ticks { λ r. ⌜ r ≡ blockTicks count 0 (length (now (out .entry))) (loadedChip master rate (now (registers .entry))) ⌝ }
-    ensures words { λ r. ⌜ now (out .exit) ≡ blockWords count (now (out .entry)) (loadedChip master rate (now (registers .entry))) ⌝ }
+pub extern "C" fn ym2149_with_clocks(chip: &mut Record, master: u32, rate: u32) -> u8
+    ensures { λ r. ⌜ (r ≡ newRecord (withClocks master rate) .no) × (now (chip .exit) ≡ newRecord (withClocks master rate) .chip) ⌝ }
 {
-    let mut chip = loaded(master, rate, *registers);
-    let mut ticks: u64 = 0;
-    let mut left = count;
-    while left > 0 {
-        let played = calls_words::block(chip, out);
-        chip = played.chip;
-        ticks = played.answer.ticks;
-        left = left - 1;
-    }
-    ticks
+    let r = c_making::with_clocks(master, rate);
+    *chip = r.chip;
+    r.no
 }
 
-// 256 writes to the volumes are queued through the ports, `cycles` apart; then that chip's block is rendered `count` times over.
-// Answers its ticks.
 #[no_mangle]
-pub extern "C" fn ym2149_play_writes(
-    master: u32,
-    rate: u32,
-    registers: &[u8; 16],
-    cycles: u32,
-    count: u32,
-    out: &mut [u16],
-) -> u64
-    ensures ticks { λ r. ⌜ r ≡ repeatTicks count 0 (length (now (out .entry))) (queuedChip 256 0 cycles (loadedChip master rate (now (registers .entry)))) ⌝ }
-    ensures words { λ r. ⌜ now (out .exit) ≡ repeatWords count (now (out .entry)) (queuedChip 256 0 cycles (loadedChip master rate (now (registers .entry)))) ⌝ }
+pub extern "C" fn ym2149_reset(chip: &mut Record) -> u8
+    ensures { λ r. ⌜ (r ≡ onRecord resetCall (now (chip .entry)) .no)
+        × (now (chip .exit) ≡ onRecord resetCall (now (chip .entry)) .chip) ⌝ }
 {
-    let chip = with_writes(loaded(master, rate, *registers), cycles);
-    let mut ticks: u64 = 0;
-    let mut times = count;
-    while times > 0 {
-        let played = calls_words::block(chip, out);
-        ticks = played.answer.ticks;
-        times = times - 1;
-    }
-    ticks
+    let r = c_calls::reset(*chip);
+    *chip = r.chip;
+    r.no
 }
 
-fn loaded(master: u32, rate: u32, registers: [u8; 16]) -> Chip
-    ensures { λ r. ⌜ r ≡ loadedChip master rate registers ⌝ }
+#[no_mangle]
+pub extern "C" fn ym2149_write_register(chip: &mut Record, register: u8, value: u8) -> u8
+    ensures { λ r. ⌜ (r ≡ onRecord (writeRegister register value) (now (chip .entry)) .no)
+        × (now (chip .exit) ≡ onRecord (writeRegister register value) (now (chip .entry)) .chip) ⌝ }
 {
-    let made = calls_making::with_clocks(master, rate);
-    let written = calls_registers::load_registers(made.chip, registers);
-    written.chip
+    let r = c_calls::write_register(*chip, register, value);
+    *chip = r.chip;
+    r.no
 }
 
-fn with_writes(chip: Chip, cycles: u32) -> Chip
-    ensures { λ r. ⌜ r ≡ queuedChip 256 0 cycles chip ⌝ }
+#[no_mangle]
+pub extern "C" fn ym2149_load_registers(chip: &mut Record, registers: Registers) -> u8
+    ensures { λ r. ⌜ (r ≡ onRecord (loadRegisters (registers .bytes)) (now (chip .entry)) .no)
+        × (now (chip .exit) ≡ onRecord (loadRegisters (registers .bytes)) (now (chip .entry)) .chip) ⌝ }
 {
-    let mut next = chip;
-    let mut place: u16 = 0;
-    while place < 256 {
-        next = with_write(next, place, cycles);
-        place = place + 1;
-    }
-    next
+    let r = c_calls::load_registers(*chip, registers);
+    *chip = r.chip;
+    r.no
 }
 
-// Stamped `cycles` times the place plus 1, to R8, R9 and R10 in turn.
-fn with_write(chip: Chip, place: u16, cycles: u32) -> Chip
-    ensures { λ r. ⌜ r ≡ writeQueued place cycles chip ⌝ }
+#[no_mangle]
+pub extern "C" fn ym2149_write_port(chip: &mut Record, port: u8, value: u8) -> u8
+    ensures { λ r. ⌜ (r ≡ onRecord (writePort port value) (now (chip .entry)) .no)
+        × (now (chip .exit) ≡ onRecord (writePort port value) (now (chip .entry)) .chip) ⌝ }
 {
-    let stamp = (place as u64 + 1) * (cycles as u64);
-    let due = calls_cycles::set_cpu_cycle(chip, stamp);
-    let selected = calls_ports::write_port(due.chip, 0, (8 + place % 3) as u8);
-    let queued = calls_ports::write_port(selected.chip, 2, (place % 256) as u8);
-    queued.chip
+    let r = c_calls::write_port(*chip, port, value);
+    *chip = r.chip;
+    r.no
+}
+
+#[no_mangle]
+pub extern "C" fn ym2149_write_port_immediate(chip: &mut Record, port: u8, value: u8) -> u8
+    ensures { λ r. ⌜ (r ≡ onRecord (writePortImmediate port value) (now (chip .entry)) .no)
+        × (now (chip .exit) ≡ onRecord (writePortImmediate port value) (now (chip .entry)) .chip) ⌝ }
+{
+    let r = c_calls::write_port_immediate(*chip, port, value);
+    *chip = r.chip;
+    r.no
+}
+
+#[no_mangle]
+pub extern "C" fn ym2149_set_cpu_cycle(chip: &mut Record, cycle: u64) -> u8
+    ensures { λ r. ⌜ (r ≡ onRecord (setCpuCycle cycle) (now (chip .entry)) .no)
+        × (now (chip .exit) ≡ onRecord (setCpuCycle cycle) (now (chip .entry)) .chip) ⌝ }
+{
+    let r = c_calls::set_cpu_cycle(*chip, cycle);
+    *chip = r.chip;
+    r.no
+}
+
+#[no_mangle]
+pub extern "C" fn ym2149_sync_sample_cycle(chip: &mut Record, cycle: u64) -> u8
+    ensures { λ r. ⌜ (r ≡ onRecord (syncSampleCycle cycle) (now (chip .entry)) .no)
+        × (now (chip .exit) ≡ onRecord (syncSampleCycle cycle) (now (chip .entry)) .chip) ⌝ }
+{
+    let r = c_calls::sync_sample_cycle(*chip, cycle);
+    *chip = r.chip;
+    r.no
+}
+
+#[no_mangle]
+pub extern "C" fn ym2149_flush_pending_writes(chip: &mut Record) -> u8
+    ensures { λ r. ⌜ (r ≡ onRecord flushPendingWrites (now (chip .entry)) .no)
+        × (now (chip .exit) ≡ onRecord flushPendingWrites (now (chip .entry)) .chip) ⌝ }
+{
+    let r = c_calls::flush_pending_writes(*chip);
+    *chip = r.chip;
+    r.no
+}
+
+#[no_mangle]
+pub extern "C" fn ym2149_set_timer_irq_state(chip: &mut Record, on: bool) -> u8
+    ensures { λ r. ⌜ (r ≡ onRecord (setTimerIrqState on) (now (chip .entry)) .no)
+        × (now (chip .exit) ≡ onRecord (setTimerIrqState on) (now (chip .entry)) .chip) ⌝ }
+{
+    let r = c_calls::set_timer_irq_state(*chip, on);
+    *chip = r.chip;
+    r.no
+}
+
+#[no_mangle]
+pub extern "C" fn ym2149_inside_timer_irq(chip: &mut Record, inside: bool) -> u8
+    ensures { λ r. ⌜ (r ≡ onRecord (setTimerIrqState inside) (now (chip .entry)) .no)
+        × (now (chip .exit) ≡ onRecord (setTimerIrqState inside) (now (chip .entry)) .chip) ⌝ }
+{
+    let r = c_calls::inside_timer_irq(*chip, inside);
+    *chip = r.chip;
+    r.no
+}
+
+#[no_mangle]
+pub extern "C" fn ym2149_trigger_envelope(chip: &mut Record) -> u8
+    ensures { λ r. ⌜ (r ≡ onRecord triggerEnvelope (now (chip .entry)) .no)
+        × (now (chip .exit) ≡ onRecord triggerEnvelope (now (chip .entry)) .chip) ⌝ }
+{
+    let r = c_calls::trigger_envelope(*chip);
+    *chip = r.chip;
+    r.no
+}
+
+#[no_mangle]
+pub extern "C" fn ym2149_set_channel_mute(chip: &mut Record, channel: usize, muted: bool) -> u8
+    ensures { λ r. ⌜ (r ≡ onRecord (setChannelMute channel muted) (now (chip .entry)) .no)
+        × (now (chip .exit) ≡ onRecord (setChannelMute channel muted) (now (chip .entry)) .chip) ⌝ }
+{
+    let r = c_calls::set_channel_mute(*chip, channel, muted);
+    *chip = r.chip;
+    r.no
+}
+
+#[no_mangle]
+pub extern "C" fn ym2149_set_drum_sample_override(
+    chip: &mut Record,
+    channel: usize,
+    drum: RecordDrum,
+) -> u8
+    ensures { λ r. ⌜ (r ≡ onRecord (setDrumSampleOverride channel (drumOf drum)) (now (chip .entry)) .no)
+        × (now (chip .exit) ≡ onRecord (setDrumSampleOverride channel (drumOf drum)) (now (chip .entry)) .chip) ⌝ }
+{
+    let r = c_calls::set_drum_sample_override(*chip, channel, drum);
+    *chip = r.chip;
+    r.no
+}
+
+#[no_mangle]
+pub extern "C" fn ym2149_compute_next_sample(chip: &mut Record) -> Sample
+    ensures { λ r. ⌜ (r ≡ nextWord (now (chip .entry)) .answer)
+        × (now (chip .exit) ≡ nextWord (now (chip .entry)) .chip) ⌝ }
+{
+    let r = c_words::compute_next_sample(*chip);
+    *chip = r.chip;
+    r.answer
+}
+
+#[no_mangle]
+pub extern "C" fn ym2149_block(chip: &mut Record, out: &mut [u16]) -> Played
+    ensures { λ r. ⌜ (r ≡ nextBlock (length (now (out .entry))) (now (chip .entry)) .answer)
+        × (now (chip .exit) ≡ nextBlock (length (now (out .entry))) (now (chip .entry)) .chip)
+        × (now (out .exit) ≡ blockBuffer (now (out .entry)) (chipOf (now (chip .entry)))) ⌝ }
+{
+    let r = c_words::block(*chip, out);
+    *chip = r.chip;
+    r.answer
+}
+
+#[no_mangle]
+pub extern "C" fn ym2149_read_register(chip: &Record, register: u8) -> Byte
+    ensures { λ r. ⌜ r ≡ readRegister register (chipOf (now (chip .entry))) ⌝ }
+{
+    c_calls::read_register(*chip, register)
+}
+
+#[no_mangle]
+pub extern "C" fn ym2149_dump_registers(chip: &Record) -> Bytes
+    ensures { λ r. ⌜ r ≡ dumpRegisters (chipOf (now (chip .entry))) ⌝ }
+{
+    c_calls::dump_registers(*chip)
+}
+
+#[no_mangle]
+pub extern "C" fn ym2149_read_port(chip: &Record, port: u8) -> Byte
+    ensures { λ r. ⌜ r ≡ readPort port (chipOf (now (chip .entry))) ⌝ }
+{
+    c_calls::read_port(*chip, port)
+}
+
+#[no_mangle]
+pub extern "C" fn ym2149_cpu_cycle(chip: &Record) -> Cycle
+    ensures { λ r. ⌜ r ≡ cpuCycle (chipOf (now (chip .entry))) ⌝ }
+{
+    c_calls::cpu_cycle(*chip)
+}
+
+#[no_mangle]
+pub extern "C" fn ym2149_pending_write_count(chip: &Record) -> Count
+    ensures { λ r. ⌜ r ≡ pendingWriteCount (chipOf (now (chip .entry))) ⌝ }
+{
+    c_calls::pending_write_count(*chip)
+}
+
+#[no_mangle]
+pub extern "C" fn ym2149_is_channel_muted(chip: &Record, channel: usize) -> Flag
+    ensures { λ r. ⌜ r ≡ isChannelMuted channel (chipOf (now (chip .entry))) ⌝ }
+{
+    c_calls::is_channel_muted(*chip, channel)
+}
+
+#[no_mangle]
+pub extern "C" fn ym2149_get_channel_outputs(chip: &Record) -> Outputs
+    ensures { λ r. ⌜ r ≡ getChannelOutputs (chipOf (now (chip .entry))) ⌝ }
+{
+    c_calls::get_channel_outputs(*chip)
 }

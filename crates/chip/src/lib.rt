@@ -9,6 +9,7 @@ use registers::Voice;
 use three_channels::Channels;
 
 // Accepted clocks and their quotients: the internal clock is a tick's, and `cycles` are the CPU's in a word.
+#[repr(C)]
 pub struct Clocks {
     pub master: u32,
     pub rate: u32,

@@ -5,6 +5,7 @@ ghost use Rattle.envelope.specs.Envelope.{envelopeTick, envelopeReset, e
 ghost use Rattle.envelope.specs.Range.{PositionInRange, EnvelopeInRange};
 
 // `offset` is where the shape's row begins.
+#[repr(C)]
 pub struct Envelope {
     pub counter: u16,
     pub period: u16,

@@ -3,6 +3,7 @@ ghost use mathlib.Core.Path.{_≡_};
 ghost use Rattle.gates.specs.Gates.{gatesFrom, gateOf};
 
 // R7 as masks over fifteen bits, five to a channel; a set bit holds the gate open.
+#[repr(C)]
 pub struct Gates {
     pub tone: u32,
     pub noise: u32,

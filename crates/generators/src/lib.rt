@@ -9,6 +9,7 @@ use tone::BITS_B;
 use tone::BITS_C;
 use tone::Tone;
 
+#[repr(C)]
 pub struct Generators {
     pub a: Tone,
     pub b: Tone,

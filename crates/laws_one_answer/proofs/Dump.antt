@@ -53,7 +53,4 @@ played =
       start = λ h x y. by-answer (h .𝓤);
       next-piece = λ h x y. by-buffer (h .𝓤) (λ w. (tt, (tt, (w, tt))));
       room = λ h x y. by-first (h .𝓤);
-      ym2149-play = λ h x y. by-buffer (h .𝓤) (λ w. (tt, (tt, (tt, (w, tt)))));
-      ym2149-play-blocks = λ h x y. by-buffer (h .𝓤) (λ w. (tt, (tt, (tt, (tt, (w, tt))))));
-      ym2149-play-writes = λ h x y. by-buffer (h .𝓤) (λ w. (tt, (tt, (tt, (tt, (tt, (w, tt)))))));
     }

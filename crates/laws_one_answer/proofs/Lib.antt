@@ -2,5 +2,7 @@ pub mod Laws
 pub mod Chip
 pub mod Cabinet
 pub mod Host
+pub mod Records
+pub mod Exported
 pub mod Dump
 pub mod Parts

@@ -1,4 +1,4 @@
--- The calls of the dump player and of `c_interface` are settled, what they leave in lent buffers included (`Settled`). Assumes nothing.
+-- The calls of the dump player are settled, what they leave in lent buffers included (`Settled`). Assumes nothing.
 use denote.Ref.{now}
 use Rattle.text_fields.proofs.decimal
 use Rattle.text_fields.proofs.all_hex as all-hex
@@ -34,9 +34,6 @@ use Rattle.dump_progress.proofs.words_given as words-given
 use Rattle.dump_player.proofs.start
 use Rattle.dump_player.proofs.next_piece as next-piece
 use Rattle.dump_input.proofs.room
-use Rattle.c_interface.proofs.ym2149_play as ym2149-play
-use Rattle.c_interface.proofs.ym2149_play_blocks as ym2149-play-blocks
-use Rattle.c_interface.proofs.ym2149_play_writes as ym2149-play-writes
 use Rattle.laws_one_answer.specs.Settled.{Settles, SettlesAs}
 
 pub record Played : Type 2 where
@@ -75,6 +72,3 @@ pub record Played : Type 2 where
   pub start : Settles start.ended (λ M. start.clauses)
   pub next-piece : Settles next-piece.ended (λ M. next-piece.clauses)
   pub room : Settles room.ended (λ M. room.clauses)
-  pub ym2149-play : Settles ym2149-play.ended (λ M. ym2149-play.clauses)
-  pub ym2149-play-blocks : Settles ym2149-play-blocks.ended (λ M. ym2149-play-blocks.clauses)
-  pub ym2149-play-writes : Settles ym2149-play-writes.ended (λ M. ym2149-play-writes.clauses)

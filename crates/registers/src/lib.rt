@@ -6,6 +6,7 @@ use gates::Gates;
 use generators::Generators;
 
 // What a register write reads and changes: the stored bytes, the generators, R7's gates and the IRQ flag.
+#[repr(C)]
 pub struct Voice {
     pub registers: [u8; 14],
     pub generators: Generators,

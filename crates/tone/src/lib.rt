@@ -4,6 +4,7 @@ ghost use Prim.Native.Nat.{_≤_};
 ghost use Rattle.tone.specs.Tone.{toneStep, toneTick, toneReset, toneSet, toneReleased, isHalved};
 
 // `edges` are five equal bits at the channel's place; `pending` marks a flip that waits for the IRQ's end.
+#[repr(C)]
 pub struct Tone {
     pub counter: u16,
     pub period: u16,

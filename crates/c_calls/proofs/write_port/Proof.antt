@@ -1,0 +1,19 @@
+-- `c_calls::write_port` meets its contract: the call on the chip that the record holds, told. Assumes nothing.
+use borrow.Author.Needs.{needs}
+use Rattle.c_calls.proofs.write_port.Statement.{statement}
+use Rattle.c_calls.proofs.write_port.Tie as tie
+
+chip-of-requires : tie.Need-chip-of-requires
+chip-of-requires c κs = search needs
+
+write-port-requires : tie.Need-write-port-requires
+write-port-requires c κs = search needs
+
+tell-requires : tie.Need-tell-requires
+tell-requires c κs = search needs
+
+returns : tie.Need-returns
+returns c = rw (c .tell .ensures, c .before .write-port .ensures, c .before .before .chip-of .ensures)
+
+pub write-port-spec : {M : Type 1} → statement M
+write-port-spec = tie.close (tie.spec chip-of-requires write-port-requires tell-requires returns)
