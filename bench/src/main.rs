@@ -4,11 +4,13 @@
 mod crates_own;
 mod ours;
 
+use oracle::chip::Ym2149;
 use std::hint::black_box;
+use ym2149_proved::Chip;
 
 pub const MASTER: u32 = 2_000_000;
 /// As many writes as may wait (01, answer 4).
-pub const RING: usize = 256;
+const RING: usize = 256;
 
 /// Three tones, noise on A, a fixed volume on A, the envelope on B, a masked volume on C.
 const BUSY: [u8; 16] = [0x1c, 0x01, 0x7b, 0x00, 0x05, 0x00, 0x07, 0x00, 0x0f, 0x10, 0x1c, 0x30, 0x00, 0x0e, 0, 0];
@@ -20,7 +22,7 @@ const RATES: [(u32, f64); 4] = [(44_100, 1.0), (250_000, 1.0), (1_000, 1.3), (10
 const WRITES_BAR: f64 = 1.6;
 
 #[derive(Clone, Copy, PartialEq)]
-pub enum Load {
+enum Load {
     Busy,
     Silent,
     /// A write falls due in every word; the ring was filled before the time begins.
@@ -34,7 +36,7 @@ impl Load {
         ["busy", "silent", "writes", "ports"][self as usize]
     }
 
-    pub fn registers(self) -> &'static [u8; 16] {
+    fn registers(self) -> &'static [u8; 16] {
         if self == Load::Silent { &SILENT } else { &BUSY }
     }
 
@@ -49,11 +51,11 @@ impl Load {
 }
 
 /// One line of the table: what is played.
-pub struct Play {
-    pub load: Load,
-    pub rate: u32,
-    pub block: usize,
-    pub count: usize,
+struct Play {
+    load: Load,
+    rate: u32,
+    block: usize,
+    count: usize,
 }
 
 impl Play {
@@ -69,13 +71,51 @@ impl Play {
     }
 
     /// The CPU's cycles in a word: writes that lie so far apart fall due one to a word.
-    pub fn cycles(&self) -> u32 {
+    fn cycles(&self) -> u32 {
         4 * MASTER / self.rate
     }
 }
 
+/// One side: its chip, and the calls that a host makes on it.
+pub trait Side: Clone {
+    fn loaded(rate: u32, registers: &[u8; 16]) -> Self;
+    fn queue(&mut self, stamp: u64, register: u8, value: u8);
+    fn render(&mut self, out: &mut [u16]);
+}
+
+/// A chip with the ring full: one write to R8, R9 or R10 falls due in every word.
+fn filled<S: Side>(play: &Play) -> S {
+    let mut chip = S::loaded(play.rate, play.load.registers());
+    for place in 0..RING as u64 {
+        chip.queue((place + 1) * play.cycles() as u64, 8 + (place % 3) as u8, place as u8);
+    }
+    chip
+}
+
+/// Nanoseconds for the whole of `play`.
+fn run<S: Side>(play: &Play, out: &mut [u16]) -> f64 {
+    match play.load {
+        Load::Busy | Load::Silent => timed(|| {
+            let mut chip = S::loaded(play.rate, play.load.registers());
+            (0..play.count).for_each(|_| chip.render(out));
+            chip
+        }),
+        Load::Ports => timed(|| {
+            let mut chip = filled::<S>(play);
+            chip.render(out);
+            chip
+        }),
+        // each block begins at the full ring: the chips are copied beforehand
+        Load::Writes => {
+            let mut chips = vec![filled::<S>(play); play.count.min(64)];
+            let spent = timed(|| chips.iter_mut().for_each(|chip| chip.render(out)));
+            spent / chips.len() as f64 * play.count as f64
+        }
+    }
+}
+
 /// Nanoseconds that this process has run on a processor, so that others who share it do not count.
-pub fn clock() -> f64 {
+fn clock() -> f64 {
     #[repr(C)]
     struct Time {
         seconds: i64,
@@ -90,7 +130,7 @@ pub fn clock() -> f64 {
     time.seconds as f64 * 1e9 + time.nanoseconds as f64
 }
 
-pub fn timed<T>(work: impl FnOnce() -> T) -> f64 {
+fn timed<T>(work: impl FnOnce() -> T) -> f64 {
     let begun = clock();
     black_box(work());
     clock() - begun
@@ -103,8 +143,8 @@ fn best(play: &Play) -> (f64, f64) {
     let begun = clock();
     let mut runs = 0;
     while runs < 7 || (runs < 60 && clock() - begun < 0.7e9) {
-        ours = ours.min(ours::run(play, &mut our_words));
-        theirs = theirs.min(crates_own::run(play, &mut their_words));
+        ours = ours.min(run::<Chip>(play, &mut our_words));
+        theirs = theirs.min(run::<Ym2149>(play, &mut their_words));
         runs += 1;
     }
     assert!(our_words == their_words, "the two sides rendered different words");

@@ -1,31 +1,22 @@
-//! Our side: the exported functions of `crates/c_interface`.
+//! Our side: the calls of the proved library, as a host makes them.
 
-use crate::{Load, MASTER, Play, timed};
+use crate::{MASTER, Side};
+use ym2149_proved::Chip;
 
-// A lent slice is its address and its length.
-unsafe extern "C" {
-    fn ym2149_play_blocks(master: u32, rate: u32, registers: &[u8; 16], count: u32, out: *mut u16, words: u64) -> u64;
-    fn ym2149_play_writes(master: u32, rate: u32, registers: &[u8; 16], cycles: u32, count: u32, out: *mut u16, words: u64) -> u64;
-}
-
-pub fn run(play: &Play, out: &mut [u16]) -> f64 {
-    match play.load {
-        Load::Busy | Load::Silent => timed(|| blocks(play, out)),
-        Load::Ports => timed(|| writes(play, play.count, out)),
-        // without a block, the call fills the ring alone
-        Load::Writes => {
-            let filled = timed(|| writes(play, 0, out));
-            timed(|| writes(play, play.count, out)) - filled
-        }
+impl Side for Chip {
+    fn loaded(rate: u32, registers: &[u8; 16]) -> Chip {
+        let mut chip = Chip::with_clocks(MASTER, rate).unwrap();
+        chip.load_registers(*registers).unwrap();
+        chip
     }
-}
 
-fn blocks(play: &Play, out: &mut [u16]) -> u64 {
-    let (at, words) = (out.as_mut_ptr(), out.len() as u64);
-    unsafe { ym2149_play_blocks(MASTER, play.rate, play.load.registers(), play.count as u32, at, words) }
-}
+    fn queue(&mut self, stamp: u64, register: u8, value: u8) {
+        self.set_cpu_cycle(stamp).unwrap();
+        self.write_port(0, register).unwrap();
+        self.write_port(2, value).unwrap();
+    }
 
-fn writes(play: &Play, count: usize, out: &mut [u16]) -> u64 {
-    let (at, words) = (out.as_mut_ptr(), out.len() as u64);
-    unsafe { ym2149_play_writes(MASTER, play.rate, play.load.registers(), play.cycles(), count as u32, at, words) }
+    fn render(&mut self, out: &mut [u16]) {
+        self.block(out).unwrap();
+    }
 }
