@@ -1,10 +1,10 @@
 -- `c_interface::ym2149_with_clocks` meets its contract: the walk of `Making.antt`, at `c_making::with_clocks`. Assumes nothing.
 use mathlib.Core.Path.{refl}
 use mathlib.Core.List.{[], _∷_}
+use Rattle.laws.proofs.Flat.{u32f}
 use Rattle.calls_making.specs.Making.{withClocks}
 use Rattle.c_making.specs.Making.{newRecord}
 use Rattle.c_interface.proofs.Making as making
-use Rattle.c_interface.proofs.Making.{u32f}
 use Rattle.c_making.proofs.with_clocks.Symbol as g
 use Rattle.c_making.proofs.with_clocks.Met as g-thm
 use Rattle.c_told.proofs.Replies as replies
