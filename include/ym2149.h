@@ -228,7 +228,7 @@ uint8_t ym2149_reset(struct ym2149 *chip);
  * even for the same byte; 8..10 only store. Writes to registers 14 and up answer 0 and change nothing. */
 uint8_t ym2149_write_register(struct ym2149 *chip, uint8_t number, uint8_t value);
 
-/* Writes bytes 0 to 13 in order, at once. */
+/* Writes bytes 0 to 13 in order, at once, an R13 of ff too: only the dump player leaves that out. */
 uint8_t ym2149_load_registers(struct ym2149 *chip, struct ym2149_registers registers);
 
 /* Port bit 1 clear selects (value modulo 16) at once; set, it queues the write with the current stamp and selected number, 14 and 15

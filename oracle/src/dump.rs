@@ -1,4 +1,4 @@
-//! 01, "The dump player", over the oracle's chip.
+//! 01, "The dump player", as request 02 of 02 amends it, over the oracle's chip.
 
 use crate::chip::Ym2149;
 use crate::refusal::{self, *};
@@ -106,6 +106,11 @@ pub fn read(text: &[u8]) -> Result<Dump, Refused> {
     Ok(Dump { master, rate, words: words as usize, frames })
 }
 
+/// From R0 on. 02, request 02: "a frame whose last byte is ff now writes R0..R12 only"; the byte is the line's, before any mask.
+fn registers_written(frame: &[u8; REGISTERS]) -> usize {
+    if frame[13] == 0xff { 13 } else { 14 }
+}
+
 /// Prints the words of a dump, or its refusal.
 pub fn play(text: &[u8], out: &mut impl Write) -> io::Result<()> {
     let dump = match read(text) {
@@ -115,7 +120,7 @@ pub fn play(text: &[u8], out: &mut impl Write) -> io::Result<()> {
     let mut chip = Ym2149::with_clocks(dump.master, dump.rate);
     writeln!(out, "words={}", dump.words * dump.frames.len())?;
     for frame in &dump.frames {
-        for (register, &value) in frame.iter().enumerate() {
+        for (register, &value) in frame.iter().enumerate().take(registers_written(frame)) {
             chip.write_register(register as u8, value);
         }
         for _ in 0..dump.words {

@@ -69,7 +69,7 @@ impl Chip {
         done(unsafe { ym2149_write_register(&mut self.record, register, value) })
     }
 
-    /// Writes bytes 0 to 13 in order.
+    /// Writes bytes 0 to 13 in order, an R13 of ff too: only the dump player leaves that out.
     pub fn load_registers(&mut self, bytes: [u8; 16]) -> Result<(), Refusal> {
         done(unsafe { ym2149_load_registers(&mut self.record, Registers { bytes }) })
     }

@@ -12,22 +12,12 @@ use Rattle.chip.specs.Range.{chipIn}
 use Rattle.answers.specs.Answers.{answered}
 use Rattle.answers.specs.declared.Answered.{Answered}
 use Rattle.answers.specs.declared.Blocked.{Blocked}
-use Rattle.chip_parts.specs.Parts.{withVoice}
-use Rattle.calls_registers.specs.Stored.{loadRegisters}
-use Rattle.registers.specs.declared.Voice.{Voice}
 use Rattle.calls_words.specs.Blocks.{blockRefused, blocked, blockBuffer}
-use Rattle.dump_frames.specs.Frame.{Registers, frameChip, frameLoaded, framePlayed, frameBuffer}
-use Rattle.dump_frames.proofs.Loading.{loaded-frame}
+use Rattle.dump_frames.specs.Frame.{frameChip, frameLoaded, framePlayed, frameBuffer}
 
 pub not-false : (r : Bool) {t : Bool} → r ≡ t → not r ≡ false → t ≡ true
 not-false true e n = sym e
 not-false false e n = let z : true ≡ false = n in sym e ∙ sym z
-
--- a value loaded, by what was learnt of the chip and the value
-module _ (value : List ℕ) (c : Chip) (ranged : chipIn c ≡ true) (framed : isFrame value ≡ true) (bytes : List ℕ) (held : Registers value bytes) where
-  pub value-loaded : {l : Answered} → l ≡ loadRegisters bytes c → l ≡ frameLoaded value c
-  unfolding loadRegisters frameLoaded frameChip
-  value-loaded q = rw (ranged, framed) ((rw ranged at q) ∙ ap (λ (v : Voice). answered accepted (withVoice v c)) (loaded-frame value bytes held (c .core .voice)))
 
 -- the two tests of a frame, and the chip that it leaves
 module _ (c d : Chip) (l : Answered) where

@@ -1,11 +1,9 @@
 // Playing a frame of a dump. 01, "The dump player".
-ghost use mathlib.Core.Bool.{true};
 ghost use mathlib.Core.Path.{_≡_};
 ghost use lib.ListN.{length};
-ghost use Rattle.dump_lines.specs.OneLine.{isFrame};
 ghost use Rattle.text_lines.specs.Bytes.{bytes};
 ghost use Rattle.text_lines.specs.Lines.{valueAt};
-ghost use Rattle.dump_frames.specs.Frame.{Registers, frameBuffer, frameLoaded, framePlayed};
+ghost use Rattle.dump_frames.specs.Frame.{frameBuffer, frameLoaded, framePlayed};
 use answers::Answered;
 use answers::Blocked;
 use chip::Chip;
@@ -29,7 +27,8 @@ fn load_value(chip: Chip, value: &[u8]) -> Answered
             no: refusals::LINE_NOT_OF_FORM,
         };
     }
-    calls_registers::load_registers(chip, registers_of(value))
+    let voice = dump_writes::write_frame(chip.core.voice, value);
+    answers::accepted(chip_parts::with_voice(chip, voice))
 }
 
 // The same frame whole: its registers, then as many words as the buffer has room for.
@@ -47,18 +46,4 @@ pub fn play_frame(chip: Chip, text: &[u8], at: usize, out: &mut [u16]) -> Blocke
         return calls_words::refused(chip, played.answer.no);
     }
     played
-}
-
-// R0 to R13, and two zeros.
-fn registers_of(value: &[u8]) -> [u8; 16]
-    requires { ⌜ isFrame (now value) ≡ true ⌝ }
-    ensures { λ r. ⌜ Registers (now (value .entry)) r ⌝ }
-{
-    let mut registers = [0u8; 16];
-    let mut i = 0;
-    while i < 14 {
-        registers[i] = text_fields::hex_byte(value, i);
-        i += 1;
-    }
-    registers
 }

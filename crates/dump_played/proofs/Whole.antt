@@ -28,7 +28,8 @@ use Rattle.calls_words.specs.Blocks.{blockNo, blockPlayed, blocked, blockBuffer
 use Rattle.block_limits.specs.Limits.{blockNumber}
 use Rattle.laws_in_range.proofs.Parts.{voice-kept}
 use Rattle.laws_in_range.proofs.CallsInRange.{with-clocks-kept, words-kept}
-use Rattle.dump_frames.specs.Frame.{frameWrites, frameChip, framePlayed, frameBuffer}
+use Rattle.dump_writes.specs.Writes.{frameWrites}
+use Rattle.dump_frames.specs.Frame.{frameChip, framePlayed, frameBuffer}
 use Rattle.dump_played.specs.Whole.{framePlace, valueOf, chipBefore, frameWords}
 
 -- a frame's writes keep the chip in range, its clocks and its start

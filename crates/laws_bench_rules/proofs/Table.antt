@@ -35,7 +35,8 @@ use Rattle.calls_registers.specs.Stored.{writeRegister, readRegister}
 use Rattle.calls_channels.specs.ChannelCalls.{setChannelMute, setDrumSampleOverride}
 use Rattle.calls_words.specs.Blocks.{blocked, blockBuffer, sampled}
 use Rattle.block_limits.specs.Limits.{blockNumber}
-use Rattle.dump_frames.specs.Frame.{frameWrites, frameChip}
+use Rattle.dump_writes.specs.Writes.{registersWritten, frameWrites}
+use Rattle.dump_frames.specs.Frame.{frameChip}
 use Rattle.dump_played.specs.Whole.{framePlace, chipBefore, frameWords, wordsIn, printed}
 use Rattle.text_put.specs.Text.{spelt}
 use Rattle.dump_words.specs.Words.{linesOf}
@@ -44,7 +45,7 @@ use Rattle.laws_bench_rules.specs.Setups.{ticks, shape8, drumAlone, rese
 use Rattle.laws_bench_rules.specs.Table.{Table}
 
 pub table : Table
-unfolding ticks shape8 drumAlone resetAfter31 needless digits decimalOf hexValue allHex hexByte span lineAt startsWith valueAt lineEntryAt masterLineNo rateLineNo wordsLineNo framesLineNo isFrame frameAt framesFrom sized verdictOf shapeEntry envelopeEntry toneSet toneStep toneTick registerStep outputBy noiseTick nextPosition envelopeTick rowPlace envelopeLevel tick edgesOf toneAt putTone tonesSet powerOnEdges generatorsReset gatesFrom gateOf drumOut heard sounded levelUsed gatedLevel loudnessOf channelAt putChannel setMute setDrum mixed pairAt tonePeriodSet noisePeriodSet gatesSet envelopePeriodSet shapeSet voiceSet masked applyRegister registersFrom voiceReset writesFrom waiting due appliedInOrder registerWrites drain queueIn ticking ticked drained ranOf mixedOf wordOf afterWords ticksOf wordsOf clocksNo clocksIn bytesIn toneIn allOrNone noiseIn envelopeIn generatorsIn gatesIn voiceIn coreIn chipIn madeOf fresh withClocks resetOf resetCall writeRegister readRegister setChannelMute setDrumSampleOverride blockNumber blocked blockBuffer sampled frameWrites frameChip framePlace chipBefore frameWords wordsIn spelt linesOf totalText printed mul div ofInt
+unfolding ticks shape8 drumAlone resetAfter31 needless digits decimalOf hexValue allHex hexByte span lineAt startsWith valueAt lineEntryAt masterLineNo rateLineNo wordsLineNo framesLineNo isFrame frameAt framesFrom sized verdictOf shapeEntry envelopeEntry toneSet toneStep toneTick registerStep outputBy noiseTick nextPosition envelopeTick rowPlace envelopeLevel tick edgesOf toneAt putTone tonesSet powerOnEdges generatorsReset gatesFrom gateOf drumOut heard sounded levelUsed gatedLevel loudnessOf channelAt putChannel setMute setDrum mixed pairAt tonePeriodSet noisePeriodSet gatesSet envelopePeriodSet shapeSet voiceSet masked applyRegister registersFrom voiceReset writesFrom waiting due appliedInOrder registerWrites drain queueIn ticking ticked drained ranOf mixedOf wordOf afterWords ticksOf wordsOf clocksNo clocksIn bytesIn toneIn allOrNone noiseIn envelopeIn generatorsIn gatesIn voiceIn coreIn chipIn madeOf fresh withClocks resetOf resetCall writeRegister readRegister setChannelMute setDrumSampleOverride blockNumber blocked blockBuffer sampled registersWritten frameWrites frameChip framePlace chipBefore frameWords wordsIn spelt linesOf totalText printed mul div ofInt
 table =
     record {
       seed = refl;
@@ -54,6 +55,7 @@ table =
       accumulator = refl;
       first-word = refl;
       dump = refl;
+      ripped-dump = refl;
       rate-250000 = refl;
       rate-250001 = refl;
       master-1073741824 = refl;

@@ -30,6 +30,10 @@ pub record Table : Type 0 where
   pub dump :
       printed (bytes "master=2000000\nrate=250000\nwords=4\nframes=1\nregs=020000000000003e0f0000000000\n")
       ≡ bytes "words=4\n9234\n100\n100\n9234\n"
+  -- No case of 01's, but of 02's request 02: a fall of the envelope goes on through R13 of ff, and the same byte 00 again restarts it.
+  pub ripped-dump :
+      printed (bytes "master=2000000\nrate=250000\nwords=2\nframes=3\nregs=000000000000003f100000010000\nregs=000000000000003f1000000100ff\nregs=000000000000003f100000010000\n")
+      ≡ bytes "words=6\n4642\n3911\n3297\n2780\n4642\n3911\n"
   -- P rate 250,000 at 2,000,000 accepted, 250,001 gives 3. A refusal leaves a fresh default chip.
   pub rate-250000 : withClocks 2000000 250000 .no ≡ 0
   pub rate-250001 : withClocks 2000000 250001 ≡ answered 3 fresh

@@ -18,11 +18,11 @@ use Rattle.dump_frames.specs.Frame.{framePlayed}
 use Rattle.dump_words.specs.Words.{linesOf}
 use Rattle.dump_output.specs.Printed.{totalText}
 use Rattle.dump_played.specs.Whole.{valueOf, chipBefore, frameWords, wordsIn, printed}
-use Rattle.dump_played.proofs.Whole.{plays, leaves, fills, makes}
+use Rattle.dump_played.proofs.Whole.{chip-range, plays, leaves, fills, makes}
 use Rattle.laws_promises.specs.History.{Call, after, Ledger, emptyLedger, ledger}
 use Rattle.laws_promises.specs.Demand.{N, Holds}
 use Rattle.laws_promises.proofs.Demand.{demand-3}
-use Rattle.laws_histories.specs.Histories.{AllAccepted, values, loadThenRender, madeFor, dumpCalls}
+use Rattle.laws_histories.specs.Histories.{AllAccepted, values, writeThenRender, madeFor, dumpCalls}
 use Rattle.laws_histories.specs.Claims.{dumpLedger, wholeLedger, DumpIsCalls}
 use Rattle.laws_histories.proofs.Appending.{after-append, ledger-append, accepted-append}
 use Rattle.laws_histories.proofs.Frames.{frame-after, frame-each, frame-words, frame-counted, frame-queues-none}
@@ -32,7 +32,7 @@ abbrev zeros : List ℕ → List ℕ
 zeros text = replicate (verdictOf text .words) 0
 
 abbrev grown : List ℕ → ℕ → Ledger → Ledger
-grown text f l = ledger (loadThenRender (valueOf text f) (zeros text)) (chipBefore text f) l
+grown text f l = ledger (writeThenRender (valueOf text f) (zeros text)) (chipBefore text f) l
 
 module _ (text : List ℕ) (ok : verdictOf text .no ≡ accepted) (f : ℕ) (h : f < verdictOf text .frames) where
   long : length (zeros text) ≡ verdictOf text .words
@@ -41,22 +41,22 @@ module _ (text : List ℕ) (ok : verdictOf text .no ≡ accepted) (f : ℕ) (h :
   fine : framePlayed (valueOf text f) (length (zeros text)) (chipBefore text f) .answer .no ≡ accepted
   fine = rw long (ap (λ (b : Blocked). b .answer .no) (plays text ok f h))
 
-  next-chip : after (loadThenRender (valueOf text f) (zeros text)) (chipBefore text f) ≡ chipBefore text (suc f)
-  next-chip = frame-after (valueOf text f) (zeros text) (chipBefore text f) fine ∙ rw long (leaves text ok f h)
+  next-chip : after (writeThenRender (valueOf text f) (zeros text)) (chipBefore text f) ≡ chipBefore text (suc f)
+  next-chip = frame-after (valueOf text f) (zeros text) (chipBefore text f) fine (chip-range text f) ∙ rw long (leaves text ok f h)
 
   module _ (l : Ledger) where
     next-words : values (grown text f l .words) ≡ values (l .words) ++ frameWords text f
     next-words =
-        frame-words (valueOf text f) (zeros text) (chipBefore text f) fine l
+        frame-words (valueOf text f) (zeros text) (chipBefore text f) fine (chip-range text f) l
         ∙ ap (λ (ws : List ℕ). values (l .words) ++ ws) (fills text ok f h (zeros text) long)
 
     next-counted : N (grown text f l) ≡ N l + verdictOf text .words
     next-counted =
-        frame-counted (valueOf text f) (zeros text) (chipBefore text f) fine l
+        frame-counted (valueOf text f) (zeros text) (chipBefore text f) fine (chip-range text f) l
         ∙ rw long (ap (λ (b : Blocked). N l + b .answer .words) (plays text ok f h))
 
     next-queues-none : grown text f l .accepted ≡ l .accepted
-    next-queues-none = frame-queues-none (valueOf text f) (zeros text) (chipBefore text f) fine l
+    next-queues-none = frame-queues-none (valueOf text f) (zeros text) (chipBefore text f) fine (chip-range text f) l
 
 -- the first f frames, and one more
 record Played (text : List ℕ) (f : ℕ) (calls : List Call) (l : Ledger) : Type 0 where
@@ -72,20 +72,20 @@ nothing-yet text = record { chip = refl; each = tt; words = refl; counted = omeg
 
 one-more : (text : List ℕ) → verdictOf text .no ≡ accepted → (f : ℕ) → f < verdictOf text .frames → {calls : List Call} {l : Ledger}
     → Played text f calls l
-    → Played text (suc f) (calls ++ loadThenRender (valueOf text f) (zeros text)) (grown text f l)
+    → Played text (suc f) (calls ++ writeThenRender (valueOf text f) (zeros text)) (grown text f l)
 unfolding wordsIn
 one-more text ok f h {calls} {l} b =
-    let more = loadThenRender (valueOf text f) (zeros text) in
+    let more = writeThenRender (valueOf text f) (zeros text) in
     record {
       chip = after-append calls more (madeFor text) ∙ ap (after more) (b .chip) ∙ next-chip text ok f h;
       each = accepted-append calls more (madeFor text) (b .each)
-          (rw (b .chip) (frame-each (valueOf text f) (zeros text) (chipBefore text f) (fine text ok f h)));
+          (rw (b .chip) (frame-each (valueOf text f) (zeros text) (chipBefore text f) (fine text ok f h) (chip-range text f)));
       words = next-words text ok f h l ∙ ap (λ (ws : List ℕ). ws ++ frameWords text f) (b .words);
       counted = omega (arith, next-counted text ok f h l, b .counted);
       writes = next-queues-none text ok f h l ∙ b .writes;
     }
 
-more-calls : (text : List ℕ) (f : ℕ) → dumpCalls text (suc f) ≡ dumpCalls text f ++ loadThenRender (valueOf text f) (zeros text)
+more-calls : (text : List ℕ) (f : ℕ) → dumpCalls text (suc f) ≡ dumpCalls text f ++ writeThenRender (valueOf text f) (zeros text)
 unfolding dumpCalls
 more-calls text f = refl
 

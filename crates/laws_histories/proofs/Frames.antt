@@ -1,6 +1,6 @@
--- A frame that is accepted is a load and a block, one that is refused is no call. Assumes nothing.
-use mathlib.Core.Bool.{Bool, true, false, cond}
-use mathlib.Core.List.{List, [], _++_}
+-- A frame that is accepted is its writes and a block, one that is refused is no call. Assumes nothing.
+use mathlib.Core.Bool.{Bool, true, false, not, cond}
+use mathlib.Core.List.{List, [], _∷_, _++_}
 use mathlib.Core.Path.{_≡_, refl, sym, ap, _∙_}
 use Prim.Native.Nat.{ℕ, _+_}
 use native.Mathlib.Omega.{arith}
@@ -9,20 +9,22 @@ use lib.Dec.{eqb}
 use lib.ListN.{length}
 use Rattle.refusals.specs.Numbers.{accepted, lineNotOfForm, outOfRange}
 use Rattle.laws.proofs.Tests.{by-cond, by-eq, by-same}
+use Rattle.text_fields.specs.Fields.{hexByte}
 use Rattle.dump_lines.specs.OneLine.{isFrame}
 use Rattle.chip.specs.declared.Chip.{Chip}
 use Rattle.chip.specs.Range.{chipIn}
+use Rattle.chip.proofs.InRange.{InRange}
 use Rattle.answers.specs.Answers.{answered}
-use Rattle.answers.specs.declared.Answered.{Answered}
 use Rattle.answers.specs.declared.Blocked.{Blocked}
 use Rattle.calls_words.specs.Blocks.{blockRefused, blocked, blockBuffer}
 use Rattle.dump_frames.specs.Frame.{frameChip, frameLoaded, keptIf, framePlayed, frameBuffer}
-use Rattle.laws_promises.specs.History.{load-registers, block, answers, after, Ledger, restarts, enters, isAccepted, entered, ledger}
+use Rattle.laws_promises.specs.History.{block, answers, after, Ledger, emptyLedger, restarts, enters, isAccepted, entered, ledger}
 use Rattle.laws_promises.specs.Demand.{N, T}
 use Rattle.laws_promises.proofs.Handed.{block-adds, block-words}
-use Rattle.laws_histories.specs.Histories.{AllAccepted, values, frameBytes, loadThenRender, frameCalls}
+use Rattle.laws_histories.specs.Histories.{AllAccepted, values, writeCalls, writeThenRender, frameCalls}
 use Rattle.laws_histories.specs.Claims.{FrameIsCalls}
-use Rattle.laws_histories.proofs.Loads.{load-answers, load-enters}
+use Rattle.laws_histories.proofs.Appending.{after-append, ledger-append, accepted-append}
+use Rattle.laws_histories.proofs.Writes.{written}
 
 -- what an accepted frame has passed
 kept-taken : (c : Chip) (b : Blocked) → keptIf c b .answer .no ≡ accepted → b .answer .no ≡ accepted
@@ -62,9 +64,6 @@ module _ (value out : List ℕ) (c : Chip) (e : framePlayed value (length out) c
   pub frame-in-range : chipIn c ≡ true
   frame-in-range = was .range
 
-  pub loads : answers (load-registers (frameBytes value)) c ≡ answered accepted d
-  loads = load-answers value c (was .range)
-
   pub load-taken : frameLoaded value c ≡ answered accepted d
   unfolding frameLoaded
   load-taken = rw (was .range, was .frame)
@@ -81,34 +80,46 @@ module _ (value out : List ℕ) (c : Chip) (e : framePlayed value (length out) c
   unfolding answers
   renders-fine = was .block
 
-  pub frame-after : after (loadThenRender value out) c ≡ framePlayed value (length out) c .chip
-  unfolding after
-  frame-after =
-      ap (λ (a : Answered). answers (block out) (a .chip) .chip) loads ∙ block-chip out d ∙ sym (ap (λ (b : Blocked). b .chip) played)
-
-  pub frame-each : AllAccepted (loadThenRender value out) c
-  frame-each = (ap (λ (a : Answered). a .no) loads, (rw loads renders-fine, tt))
-
-  -- a load restarts the envelope, and enters nothing else
-  frame-ledger : (l : Ledger) → ledger (loadThenRender value out) c l ≡ entered (block out) d (restarts true l)
-  unfolding ledger
-  frame-ledger l = rw (load-enters (frameBytes value) c d l loads, loads)
-
-  pub frame-words : (l : Ledger) → values (ledger (loadThenRender value out) c l .words) ≡ values (l .words) ++ frameBuffer value out c
-  frame-words l = rw (frame-ledger l, buffer) (block-words out d (restarts true l) renders-fine)
-
-  pub frame-counted : (l : Ledger) → N (ledger (loadThenRender value out) c l) ≡ N l + framePlayed value (length out) c .answer .words
-  frame-counted l = rw (frame-ledger l, played) (block-adds out d (restarts true l) .counted)
-
-  pub frame-ran : (l : Ledger) → T (ledger (loadThenRender value out) c l) ≡ T l + framePlayed value (length out) c .answer .ticks
-  frame-ran l = rw (frame-ledger l, played) (block-adds out d (restarts true l) .ran)
-
-  pub frame-queues-none : (l : Ledger) → ledger (loadThenRender value out) c l .accepted ≡ l .accepted
-  frame-queues-none l = rw (frame-ledger l) (block-queues-none out d (restarts true l))
-
-  pub frame-is : frameCalls value out c ≡ loadThenRender value out
+  pub frame-is : frameCalls value out c ≡ writeThenRender value out
   unfolding frameCalls
   frame-is = rw (eq-eqb _ accepted e)
+
+  module _ (h : InRange c) where
+    pub frame-after : after (writeThenRender value out) c ≡ framePlayed value (length out) c .chip
+    unfolding after
+    frame-after =
+        after-append (writeCalls value) (block out ∷ []) c
+        ∙ ap (λ (x : Chip). answers (block out) x .chip) (written value c emptyLedger h .chip)
+        ∙ block-chip out d
+        ∙ sym (ap (λ (b : Blocked). b .chip) played)
+
+    pub frame-each : AllAccepted (writeThenRender value out) c
+    frame-each =
+        let w = written value c emptyLedger h in
+        accepted-append (writeCalls value) (block out ∷ []) c (w .each) (rw (w .chip) renders-fine, tt)
+
+    module _ (l : Ledger) where
+      -- the ledger behind the writes
+      abbrev m : Ledger
+      m = restarts (not (eqb (hexByte value 13) 255)) l
+
+      frame-ledger : ledger (writeThenRender value out) c l ≡ entered (block out) d m
+      unfolding ledger
+      frame-ledger =
+          let w = written value c l h in
+          ledger-append (writeCalls value) (block out ∷ []) c l ∙ rw (w .entries, w .chip)
+
+      pub frame-words : values (ledger (writeThenRender value out) c l .words) ≡ values (l .words) ++ frameBuffer value out c
+      frame-words = rw (frame-ledger, buffer) (block-words out d m renders-fine)
+
+      pub frame-counted : N (ledger (writeThenRender value out) c l) ≡ N l + framePlayed value (length out) c .answer .words
+      frame-counted = rw (frame-ledger, played) (block-adds out d m .counted)
+
+      pub frame-ran : T (ledger (writeThenRender value out) c l) ≡ T l + framePlayed value (length out) c .answer .ticks
+      frame-ran = rw (frame-ledger, played) (block-adds out d m .ran)
+
+      pub frame-queues-none : ledger (writeThenRender value out) c l .accepted ≡ l .accepted
+      frame-queues-none = rw frame-ledger (block-queues-none out d m)
 
 -- a refused frame
 refused-by : (c : Chip) (b : Blocked) (range frame : Bool)
@@ -142,18 +153,19 @@ module _ (value out : List ℕ) (c : Chip) (f : framePlayed value (length out) c
         writes = rw none-is;
       }
 
-pub frame-is-calls : (value out : List ℕ) (c : Chip) (l : Ledger) → FrameIsCalls value out c l
-frame-is-calls value out c l =
+pub frame-is-calls : (value out : List ℕ) (c : Chip) (l : Ledger) → (chipIn c ≡ true → InRange c) → FrameIsCalls value out c l
+frame-is-calls value out c l tested =
     by-same (framePlayed value (length out) c .answer .no) accepted
     (λ e.
     let i = frame-is value out c e in
+    let h = tested (frame-in-range value out c e) in
     record {
-      chip = rw i (sym (frame-after value out c e));
-      each = rw i (frame-each value out c e);
-      counted = rw i (frame-counted value out c e l);
-      ran = rw i (frame-ran value out c e l);
-      words = λ _. rw i (frame-words value out c e l);
+      chip = rw i (sym (frame-after value out c e h));
+      each = rw i (frame-each value out c e h);
+      counted = rw i (frame-counted value out c e h l);
+      ran = rw i (frame-ran value out c e h l);
+      words = λ _. rw i (frame-words value out c e h l);
       refused = λ f. absurd (f e);
-      writes = rw i (frame-queues-none value out c e l);
+      writes = rw i (frame-queues-none value out c e h l);
     })
     (λ f. refused-is-calls value out c f l)

@@ -7,7 +7,7 @@ use Rattle.chip.proofs.InRange.{InRange, passed}
 use Rattle.laws_histories.specs.Histories.{joined, OfItsType}
 use Rattle.laws_histories.specs.Claims.{Histories}
 use Rattle.laws_histories.proofs.Appending.{after-append, ledger-append}
-use Rattle.laws_histories.proofs.Loads.{load-is-call}
+use Rattle.laws_histories.proofs.Loads.{load-is-calls}
 use Rattle.laws_histories.proofs.Frames.{frame-in-range, frame-is-calls}
 use Rattle.laws_histories.proofs.Accepted.{block-in-range}
 use Rattle.laws_histories.proofs.Blocks.{blocks-join}
@@ -25,11 +25,11 @@ pub histories : Histories
 histories =
     record {
       appended = λ a b c l. record { chip = after-append a b c; entries = ledger-append a b c l };
-      load = load-is-call;
-      frame = frame-is-calls;
+      load = λ value c l t. load-is-calls value c l (tested c t);
+      frame = λ value out c l t. frame-is-calls value out c l (tested c t);
       blocks-join = λ outs c l t e. blocks-join outs c (tested c t (block-in-range (joined outs) c e)) e l;
       frame-in-parts = λ value outs c l t e. frame-in-parts value outs c (tested c t (frame-in-range value (joined outs) c e)) e l;
-      plays = plays-after;
+      plays = λ plays c t. plays-after plays c (tested c t);
       plays-hold = plays-hold;
       dump = dump-is-calls;
       prints = dump-prints;

@@ -33,7 +33,7 @@ either-assoc : (p q r : Bool) → cond (cond p true q) true r ≡ cond p true (c
 either-assoc true q r = refl
 either-assoc false q r = refl
 
-either-swap : (p q r : Bool) → cond (cond p true q) true r ≡ cond q true (cond p true r)
+pub either-swap : (p q r : Bool) → cond (cond p true q) true r ≡ cond q true (cond p true r)
 either-swap true true r = refl
 either-swap true false r = refl
 either-swap false true r = refl

@@ -1,14 +1,15 @@
 pub mod Appending
+pub mod Joining
+pub mod Writes
 pub mod Loads
 pub mod Frames
-pub mod Joining
 pub mod Accepted
 pub mod Blocks
+pub mod Since
 pub mod Plays
 pub mod Parts
 pub mod Dumps
 pub mod Flush
-pub mod Since
 pub mod Resets
 pub mod Splits
 pub mod HandedIn

@@ -1,40 +1,25 @@
--- Loading a frame is `load_registers` where it is accepted, and no call where it is refused. Assumes nothing.
-use mathlib.Core.Bool.{Bool, true, false, cond}
-use mathlib.Core.List.{List, [], _∷_}
-use mathlib.Core.Path.{_≡_, refl, sym, ap, _∙_}
+-- Loading a frame is its writes where it is accepted, and no call where it is refused. Assumes nothing.
+use mathlib.Core.Bool.{Bool, true, false, not, cond}
+use mathlib.Core.List.{List, []}
+use mathlib.Core.Path.{_≡_, refl, sym, _∙_}
 use Prim.Native.Nat.{ℕ}
 use native.Mathlib.Omega.{arith}
 use borrow.Author.Tests.{eq-eqb, ne-eqb}
+use lib.Dec.{eqb}
 use Rattle.refusals.specs.Numbers.{accepted, lineNotOfForm, outOfRange}
 use Rattle.laws.proofs.Tests.{by-same}
+use Rattle.text_fields.specs.Fields.{hexByte}
 use Rattle.dump_lines.specs.OneLine.{isFrame}
-use Rattle.registers.specs.declared.Voice.{Voice}
-use Rattle.registers.specs.Writes.{registersFrom, appliedInOrder, loaded}
 use Rattle.chip.specs.declared.Chip.{Chip}
 use Rattle.chip.specs.Range.{chipIn}
-use Rattle.chip_parts.specs.Parts.{withVoice}
+use Rattle.chip.proofs.InRange.{InRange}
 use Rattle.answers.specs.Answers.{answered}
 use Rattle.answers.specs.declared.Answered.{Answered}
-use Rattle.calls_registers.specs.Stored.{loadRegisters}
-use Rattle.dump_frames.specs.Frame.{frameWrites, frameChip, frameLoaded}
-use Rattle.laws_promises.specs.History.{load-registers, answers, after, Ledger, restarts, enters, entered, ledger}
-use Rattle.laws_histories.specs.Histories.{frameBytes, loadCalls}
-use Rattle.laws_histories.specs.Claims.{LoadIsCall}
-
--- loading a frame's bytes is its writes
-loaded-bytes : (value : List ℕ) (v : Voice) → loaded (frameBytes value) v ≡ appliedInOrder (frameWrites value) v
-unfolding frameBytes frameWrites registersFrom
-loaded-bytes value v = refl
-
-pub load-answers : (value : List ℕ) (c : Chip) → chipIn c ≡ true → answers (load-registers (frameBytes value)) c ≡ answered accepted (frameChip value c)
-unfolding answers loadRegisters frameChip
-load-answers value c e = rw e (ap (λ (v : Voice). answered accepted (withVoice v c)) (loaded-bytes value (c .core .voice)))
-
--- an accepted load restarts the envelope, and enters nothing else
-pub load-enters : (bytes : List ℕ) (c d : Chip) (l : Ledger) → answers (load-registers bytes) c ≡ answered accepted d
-    → entered (load-registers bytes) c l ≡ restarts true l
-unfolding entered enters
-load-enters bytes c d l e = rw (ap (λ (a : Answered). a .no) e)
+use Rattle.dump_frames.specs.Frame.{frameChip, frameLoaded}
+use Rattle.laws_promises.specs.History.{after, Ledger, restarts, ledger}
+use Rattle.laws_histories.specs.Histories.{writeCalls, loadCalls}
+use Rattle.laws_histories.specs.Claims.{LoadIsCalls}
+use Rattle.laws_histories.proofs.Writes.{write-number, written}
 
 -- the two tests of a load
 abbrev tested : Chip → Chip → Bool → Bool → Answered
@@ -50,43 +35,47 @@ stays c d true true f = absurd (f refl)
 stays c d true false f = refl
 stays c d false frame f = refl
 
-module _ (value : List ℕ) (c : Chip) (l : Ledger) where
+module _ (value : List ℕ) (c : Chip) (l : Ledger) (h : chipIn c ≡ true → InRange c) where
   abbrev d : Chip
   d = frameChip value c
 
-  taken : frameLoaded value c .no ≡ accepted → LoadIsCall value c l
-  unfolding frameLoaded loadCalls after ledger
+  taken : frameLoaded value c .no ≡ accepted → LoadIsCalls value c l
+  unfolding frameLoaded loadCalls
   taken e =
       let (range, frame) = passed c d (chipIn c) (isFrame value) e in
-      let one : loadCalls value c ≡ load-registers (frameBytes value) ∷ [] = rw (eq-eqb _ accepted e) in
-      let loads = load-answers value c range in
+      let are : loadCalls value c ≡ writeCalls value = rw (eq-eqb _ accepted e) in
+      let w = written value c l (h range) in
       let leaves : frameLoaded value c .chip ≡ d = rw (range, frame) in
-      let is : ledger (loadCalls value c) c l ≡ restarts true l = rw one (load-enters (frameBytes value) c d l loads) in
+      let is : ledger (loadCalls value c) c l ≡ restarts (not (eqb (hexByte value 13) 255)) l = rw are (w .entries) in
       record {
-        chip = rw one (leaves ∙ sym (ap (λ (a : Answered). a .chip) loads));
-        each = rw one (ap (λ (a : Answered). a .no) loads, tt);
-        one = λ _. one;
+        chip = rw are (leaves ∙ sym (w .chip));
+        each = rw are (w .each);
+        taken = λ _. are;
         none = λ f. absurd (f e);
+        number = write-number value;
+        restart = λ _. is;
+        refused = λ f. absurd (f e);
         counted = rw is;
         ran = rw is;
         writes = rw is;
-        refused = λ f. absurd (f e);
       }
 
-  refused : (frameLoaded value c .no ≡ accepted → ⊥) → LoadIsCall value c l
+  refused : (frameLoaded value c .no ≡ accepted → ⊥) → LoadIsCalls value c l
   unfolding frameLoaded loadCalls after ledger
   refused f =
       let none : loadCalls value c ≡ [] = rw (ne-eqb _ accepted f) in
       record {
         chip = rw none (stays c d (chipIn c) (isFrame value) f);
         each = rw none tt;
-        one = λ e. absurd (f e);
+        taken = λ e. absurd (f e);
         none = λ _. none;
+        number = write-number value;
+        restart = λ e. absurd (f e);
+        refused = λ _. rw none;
         counted = rw none;
         ran = rw none;
         writes = rw none;
-        refused = λ _. rw none;
       }
 
-  pub load-is-call : LoadIsCall value c l
-  load-is-call = by-same (frameLoaded value c .no) accepted taken refused
+  pub load-is-calls : LoadIsCalls value c l
+  load-is-calls = by-same (frameLoaded value c .no) accepted taken refused

@@ -1,5 +1,5 @@
--- A frame that is loaded and handed out in parts is a load and blocks, which join. Assumes nothing.
-use mathlib.Core.List.{List, [], _∷_, map}
+-- A frame that is loaded and handed out in parts is its writes and blocks, which join. Assumes nothing.
+use mathlib.Core.List.{List, [], _∷_, _++_, map}
 use mathlib.Core.Path.{_≡_, refl, sym, ap, _∙_}
 use Prim.Native.Nat.{ℕ}
 use lib.ListN.{length}
@@ -8,12 +8,14 @@ use Rattle.chip.specs.declared.Chip.{Chip}
 use Rattle.chip.proofs.InRange.{InRange}
 use Rattle.answers.specs.declared.Answered.{Answered}
 use Rattle.dump_frames.specs.Frame.{frameChip, frameLoaded, framePlayed}
-use Rattle.laws_promises.specs.History.{Call, load-registers, block, answers, after, Ledger, emptyLedger, entered, ledger}
-use Rattle.laws_promises.proofs.DemandKept.{in-range}
-use Rattle.laws_histories.specs.Histories.{frameBytes, loadThenRender, call, leaves, allCalls, joined, handed, inParts}
+use Rattle.dump_played.proofs.Whole.{frame-kept}
+use Rattle.laws_promises.specs.History.{Call, block, answers, after, Ledger, emptyLedger, ledger}
+use Rattle.laws_histories.specs.Histories.{writeCalls, writeThenRender, call, leaves, allCalls, joined, handed, inParts}
 use Rattle.laws_histories.specs.Claims.{BlocksJoin, FrameInParts}
-use Rattle.laws_histories.proofs.Loads.{load-is-call}
-use Rattle.laws_histories.proofs.Frames.{loads, load-taken, buffer, renders-fine, frame-after, frame-is}
+use Rattle.laws_histories.proofs.Appending.{after-append, ledger-append, accepted-append}
+use Rattle.laws_histories.proofs.Writes.{written}
+use Rattle.laws_histories.proofs.Loads.{load-is-calls}
+use Rattle.laws_histories.proofs.Frames.{load-taken, buffer, renders-fine, frame-after, frame-is}
 use Rattle.laws_histories.proofs.Blocks.{blocks-join}
 use Rattle.laws_histories.proofs.Plays.{plays-after}
 
@@ -27,40 +29,45 @@ module _ (value : List ℕ) (outs : List (List ℕ)) (c : Chip) (h : InRange c) 
   abbrev d : Chip
   d = frameChip value c
 
-  abbrev load : Call
-  load = load-registers (frameBytes value)
-
-  loads-left : answers load c .chip ≡ d
-  loads-left = ap (λ (a : Answered). a .chip) (loads value (joined outs) c e)
+  left : after (writeCalls value) c ≡ d
+  left = written value c emptyLedger h .chip
 
   joins : (l : Ledger) → BlocksJoin outs d l
-  joins l = blocks-join outs d (rw loads-left at (in-range load c h)) (renders-fine value (joined outs) c e) l
+  joins l = blocks-join outs d (frame-kept value h) (renders-fine value (joined outs) c e) l
 
   taken : frameLoaded value c .no ≡ accepted
   taken = ap (λ (a : Answered). a .no) (load-taken value (joined outs) c e)
 
-  parts-are : allCalls (inParts value outs) c ≡ load ∷ map block outs
+  abbrev parts : List Call
+  parts = writeCalls value ++ map block outs
+
+  parts-are : allCalls (inParts value outs) c ≡ parts
   unfolding allCalls leaves
-  parts-are = rw (load-is-call value c emptyLedger .one taken, blocks-are outs (frameLoaded value c .chip))
+  parts-are = rw (load-is-calls value c emptyLedger (λ _. h) .taken taken, blocks-are outs (frameLoaded value c .chip))
 
-  -- behind the load, the blocks are as one
-  behind : after (load ∷ map block outs) c ≡ after (loadThenRender value (joined outs)) c
-  unfolding after
-  behind = ap (after (map block outs)) loads-left ∙ joins emptyLedger .chip ∙ ap (after (block (joined outs) ∷ [])) (sym loads-left)
+  -- behind the writes, the blocks are as one
+  behind : after parts c ≡ after (writeThenRender value (joined outs)) c
+  behind =
+      after-append (writeCalls value) (map block outs) c
+      ∙ rw left (joins emptyLedger .chip)
+      ∙ sym (after-append (writeCalls value) (block (joined outs) ∷ []) c)
 
-  behind-entered : (l : Ledger) → ledger (load ∷ map block outs) c l ≡ ledger (loadThenRender value (joined outs)) c l
-  unfolding ledger
+  behind-entered : (l : Ledger) → ledger parts c l ≡ ledger (writeThenRender value (joined outs)) c l
   behind-entered l =
-      let m = entered load c l in
-      ap (λ (x : Chip). ledger (map block outs) x m) loads-left
-      ∙ joins m .entries
-      ∙ ap (λ (x : Chip). ledger (block (joined outs) ∷ []) x m) (sym loads-left)
+      ledger-append (writeCalls value) (map block outs) c l
+      ∙ rw left (joins (ledger (writeCalls value) c l) .entries)
+      ∙ sym (ledger-append (writeCalls value) (block (joined outs) ∷ []) c l)
 
   pub frame-in-parts : (l : Ledger) → FrameInParts value outs c l
   frame-in-parts l =
       record {
-        each = rw parts-are (ap (λ (a : Answered). a .no) (loads value (joined outs) c e), rw loads-left (joins emptyLedger .each));
-        chip = plays-after (inParts value outs) c ∙ ap (λ (calls : List Call). after calls c) parts-are ∙ behind ∙ frame-after value (joined outs) c e;
+        each = rw parts-are
+            (accepted-append (writeCalls value) (map block outs) c (written value c emptyLedger h .each) (rw left (joins emptyLedger .each)));
+        chip =
+            plays-after (inParts value outs) c (λ _. h)
+            ∙ ap (λ (calls : List Call). after calls c) parts-are
+            ∙ behind
+            ∙ frame-after value (joined outs) c e h;
         entries =
             ap (λ (calls : List Call). ledger calls c l) parts-are
             ∙ behind-entered l

@@ -1,33 +1,98 @@
 -- A history with frames among its calls is one of calls, so demand 3 speaks of it. Assumes nothing.
+use mathlib.Core.Bool.{Bool, true, false}
 use mathlib.Core.List.{List, [], _∷_}
 use mathlib.Core.Path.{_≡_, refl, sym, ap, _∙_}
 use Prim.Native.Nat.{ℕ}
+use lib.ListN.{length}
 use Rattle.refusals.specs.Numbers.{accepted}
+use Rattle.laws.proofs.Tests.{by-cond}
 use Rattle.clocks.specs.Clocks.{clocksNo}
 use Rattle.chip.specs.declared.Chip.{Chip}
-use Rattle.calls_making.specs.Making.{withClocks}
-use Rattle.laws_promises.specs.History.{after, emptyLedger, ledger}
+use Rattle.chip.specs.Range.{chipIn}
+use Rattle.chip.proofs.InRange.{InRange}
+use Rattle.calls_making.specs.Making.{withClocks, resetCall}
+use Rattle.calls_registers.specs.Stored.{writeRegister, loadRegisters}
+use Rattle.calls_ports.specs.Ports.{writePort, writePortImmediate}
+use Rattle.calls_cycles.specs.Cycles.{setCpuCycle, syncSampleCycle, flushPendingWrites}
+use Rattle.calls_effects.specs.Effects.{setTimerIrqState, triggerEnvelope}
+use Rattle.calls_channels.specs.ChannelCalls.{setChannelMute, setDrumSampleOverride}
+use Rattle.calls_words.specs.Blocks.{blocked, sampled}
+use Rattle.laws_in_range.proofs.CallsInRange.{with-clocks-kept}
+use Rattle.dump_frames.specs.Frame.{frameLoaded, framePlayed}
+use Rattle.laws_promises.specs.History
+use Rattle.laws_promises.specs.History.{Call, answers, after, emptyLedger, ledger}
 use Rattle.laws_promises.specs.Demand.{Holds}
 use Rattle.laws_promises.proofs.Demand.{demand-3}
 use Rattle.laws_histories.specs.Histories
 use Rattle.laws_histories.specs.Histories.{Play, afterPlays, allCalls}
 use Rattle.laws_histories.proofs.Appending.{after-append}
-use Rattle.laws_histories.proofs.Loads.{load-is-call}
+use Rattle.laws_histories.proofs.Loads.{load-is-calls}
 use Rattle.laws_histories.proofs.Frames.{frame-is-calls}
+use Rattle.laws_histories.proofs.Since.{calls-stay}
+
+-- a record out of range stays as it is, whatever is called or played on it
+call-stays : (x : Call) (c : Chip) → chipIn c ≡ false → answers x c .chip ≡ c
+unfolding answers resetCall writeRegister loadRegisters writePort writePortImmediate setCpuCycle syncSampleCycle flushPendingWrites setTimerIrqState triggerEnvelope setChannelMute setDrumSampleOverride sampled blocked
+call-stays History.reset c e = rw e
+call-stays (History.write-register register value) c e = rw e
+call-stays (History.load-registers bytes) c e = rw e
+call-stays (History.write-port port value) c e = rw e
+call-stays (History.write-port-immediate port value) c e = rw e
+call-stays (History.set-cpu-cycle cycle) c e = rw e
+call-stays (History.sync-sample-cycle cycle) c e = rw e
+call-stays History.flush-pending-writes c e = rw e
+call-stays (History.set-timer-irq-state on) c e = rw e
+call-stays (History.inside-timer-irq inside) c e = rw e
+call-stays History.trigger-envelope c e = rw e
+call-stays (History.set-channel-mute channel muted) c e = rw e
+call-stays (History.set-drum-sample-override channel drum) c e = rw e
+call-stays History.compute-next-sample c e = rw e
+call-stays (History.block out) c e = rw e
+call-stays (History.read-register register) c e = refl
+call-stays History.dump-registers c e = refl
+call-stays (History.read-port port) c e = refl
+call-stays History.cpu-cycle c e = refl
+call-stays History.pending-write-count c e = refl
+call-stays (History.is-channel-muted channel) c e = refl
+call-stays History.get-channel-outputs c e = refl
+
+load-stays : (value : List ℕ) (c : Chip) → chipIn c ≡ false → frameLoaded value c .chip ≡ c
+unfolding frameLoaded
+load-stays value c e = rw e
+
+frame-stays : (value : List ℕ) (n : ℕ) (c : Chip) → chipIn c ≡ false → framePlayed value n c .chip ≡ c
+unfolding framePlayed
+frame-stays value n c e = rw e
+
+play-stays : (p : Play) (c : Chip) → chipIn c ≡ false → Histories.leaves p c ≡ c
+unfolding Histories.leaves
+play-stays (Histories.call x) c e = call-stays x c e
+play-stays (Histories.load-frame value) c e = load-stays value c e
+play-stays (Histories.play-frame value out) c e = frame-stays value (length out) c e
+
+-- a record whose test says all that it should
+abbrev Tested : Chip → Type 0
+Tested c = chipIn c ≡ true → InRange c
 
 -- a call or a frame leaves what its calls leave
-left : (p : Play) (c : Chip) → Histories.leaves p c ≡ after (Histories.callsOf p c) c
+left : (p : Play) (c : Chip) → Tested c → Histories.leaves p c ≡ after (Histories.callsOf p c) c
 unfolding Histories.leaves after
-left (Histories.call x) c = refl
-left (Histories.load-frame value) c = load-is-call value c emptyLedger .chip
-left (Histories.play-frame value out) c = frame-is-calls value out c emptyLedger .chip
+left (Histories.call x) c t = refl
+left (Histories.load-frame value) c t = load-is-calls value c emptyLedger t .chip
+left (Histories.play-frame value out) c t = frame-is-calls value out c emptyLedger t .chip
 
-pub plays-after : (plays : List Play) (c : Chip) → afterPlays plays c ≡ after (allCalls plays c) c
+left-tested : (p : Play) (c : Chip) → Tested c → Tested (Histories.leaves p c)
+left-tested p c t =
+    by-cond (λ (_ : Bool). Tested (Histories.leaves p c)) (chipIn c) true false
+    (λ e _. rw (left p c t) (calls-stay (Histories.callsOf p c) c (t e) .range))
+    (λ e. rw (play-stays p c e) t)
+
+pub plays-after : (plays : List Play) (c : Chip) → Tested c → afterPlays plays c ≡ after (allCalls plays c) c
 unfolding afterPlays allCalls after
-plays-after [] c = refl
-plays-after (p ∷ plays) c =
-    plays-after plays (Histories.leaves p c)
-    ∙ ap (after (allCalls plays (Histories.leaves p c))) (left p c)
+plays-after [] c t = refl
+plays-after (p ∷ plays) c t =
+    plays-after plays (Histories.leaves p c) (left-tested p c t)
+    ∙ ap (after (allCalls plays (Histories.leaves p c))) (left p c t)
     ∙ sym (after-append (Histories.callsOf p c) (allCalls plays (Histories.leaves p c)) c)
 
 pub plays-hold : (master rate : ℕ) → clocksNo master rate ≡ accepted → (plays : List Play)
@@ -35,4 +100,4 @@ pub plays-hold : (master rate : ℕ) → clocksNo master rate ≡ accepted → (
     (ledger (allCalls plays (withClocks master rate .chip)) (withClocks master rate .chip) emptyLedger)
 plays-hold master rate e plays =
     let c = withClocks master rate .chip in
-    rw (plays-after plays c) (demand-3 master rate e (allCalls plays c))
+    rw (plays-after plays c (λ _. with-clocks-kept master rate)) (demand-3 master rate e (allCalls plays c))

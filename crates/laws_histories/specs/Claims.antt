@@ -1,9 +1,10 @@
 -- What holds of histories beyond demand 3, claim by claim. Nothing here is proved; `histories : Histories` is, in
 -- `proofs/Histories.antt`. Assumes nothing.
-use mathlib.Core.Bool.{true, false}
+use mathlib.Core.Bool.{true, false, not}
 use mathlib.Core.List.{List, [], _++_, _∷_, map}
 use mathlib.Core.Path.{_≡_}
 use Prim.Native.Nat.{ℕ, _+_, _*_, _/_, _^_, _≤_, _<_}
+use lib.Dec.{eqb}
 use lib.ListN.{length}
 use Rattle.refusals.specs.Numbers.{accepted, outOfRange}
 use Rattle.laws.specs.All.{All}
@@ -18,33 +19,39 @@ use Rattle.calls_making.specs.Making.{withClocks}
 use Rattle.calls_cycles.specs.Cycles.{pendingWriteCount}
 use Rattle.dump.specs.Checked.{verdictOf}
 use Rattle.calls_words.specs.Blocks.{blockBuffer}
+use Rattle.text_fields.specs.Fields.{hexByte}
+use Rattle.dump_writes.specs.Writes.{registersWritten}
 use Rattle.dump_frames.specs.Frame.{frameLoaded, framePlayed, frameBuffer}
 use Rattle.dump_words.specs.Words.{linesOf}
 use Rattle.dump_output.specs.Printed.{totalText}
 use Rattle.dump_played.specs.Whole.{chipBefore, wordsIn, printed}
-use Rattle.laws_promises.specs.History.{Call, reset, load-registers, flush-pending-writes, block, answers, after, Ledger, emptyLedger, entered, ledger}
+use Rattle.laws_promises.specs.History.{Call, reset, flush-pending-writes, block, answers, after, Ledger, emptyLedger, restarts, entered, ledger}
 use Rattle.laws_promises.specs.Demand.{N, T, Small, noiseOf, positionOf, FromZero, Plain, Served, Holds}
-use Rattle.laws_histories.specs.Histories.{AllAccepted, values, frameBytes, frameCalls, loadCalls, Play, afterPlays, allCalls, joined, handed, inParts, madeFor, dumpCalls, Began, OfItsType}
+use Rattle.laws_histories.specs.Histories.{AllAccepted, values, writeCalls, frameCalls, loadCalls, Play, afterPlays, allCalls, joined, handed, inParts, madeFor, dumpCalls, Began, OfItsType}
 
 -- Calls, and then more calls.
 pub record Appended (a b : List Call) (c : Chip) (l : Ledger) : Type 0 where
   pub chip : after (a ++ b) c ≡ after b (after a c)
   pub entries : ledger (a ++ b) c l ≡ ledger b (after a c) (ledger a c l)
 
--- Loading a frame is its call, for every value, chip and ledger.
-pub record LoadIsCall (value : List ℕ) (c : Chip) (l : Ledger) : Type 0 where
-  -- It leaves the chip that the call leaves. There is a call just where it answers 0, and that answers 0 too.
+-- Loading a frame is its writes, for every value, ledger and record of its type.
+pub record LoadIsCalls (value : List ℕ) (c : Chip) (l : Ledger) : Type 0 where
+  -- It leaves the chip that its calls leave. There are calls just where it answers 0, and each of them answers 0 too.
   pub chip : frameLoaded value c .chip ≡ after (loadCalls value c) c
   pub each : AllAccepted (loadCalls value c) c
-  pub one : frameLoaded value c .no ≡ accepted → loadCalls value c ≡ load-registers (frameBytes value) ∷ []
+  pub taken : frameLoaded value c .no ≡ accepted → loadCalls value c ≡ writeCalls value
   pub none : (frameLoaded value c .no ≡ accepted → ⊥) → loadCalls value c ≡ []
-  -- It renders no word, runs no tick and queues no write; refused, nothing is entered.
+  -- They are 13 where the last byte is ff, and else 14.
+  pub number : length (writeCalls value) ≡ registersWritten value
+  -- 02, request 02: a frame of ff restarts nothing, any other restarts the envelope. Nothing else is entered; refused, nothing at all.
+  pub restart : frameLoaded value c .no ≡ accepted → ledger (loadCalls value c) c l ≡ restarts (not (eqb (hexByte value 13) 255)) l
+  pub refused : (frameLoaded value c .no ≡ accepted → ⊥) → ledger (loadCalls value c) c l ≡ l
+  -- So it renders no word, runs no tick and queues no write.
   pub counted : N (ledger (loadCalls value c) c l) ≡ N l
   pub ran : T (ledger (loadCalls value c) c l) ≡ T l
   pub writes : ledger (loadCalls value c) c l .accepted ≡ l .accepted
-  pub refused : (frameLoaded value c .no ≡ accepted → ⊥) → ledger (loadCalls value c) c l ≡ l
 
--- Playing a frame is its calls, for every value, buffer, chip and ledger.
+-- Playing a frame is its calls, for every value, buffer, ledger and record of its type.
 pub record FrameIsCalls (value out : List ℕ) (c : Chip) (l : Ledger) : Type 0 where
   -- It leaves the chip that they leave, and each of them answers 0.
   pub chip : framePlayed value (length out) c .chip ≡ after (frameCalls value out c) c
@@ -133,14 +140,14 @@ pub record ResetHolds (c : Chip) (earlier later : List Call) : Type 0 where
 
 pub record Histories : Type 0 where
   pub appended : (a b : List Call) (c : Chip) (l : Ledger) → Appended a b c l
-  pub load : (value : List ℕ) (c : Chip) (l : Ledger) → LoadIsCall value c l
-  pub frame : (value out : List ℕ) (c : Chip) (l : Ledger) → FrameIsCalls value out c l
+  pub load : (value : List ℕ) (c : Chip) (l : Ledger) → OfItsType c → LoadIsCalls value c l
+  pub frame : (value out : List ℕ) (c : Chip) (l : Ledger) → OfItsType c → FrameIsCalls value out c l
   pub blocks-join : (outs : List (List ℕ)) (c : Chip) (l : Ledger) → OfItsType c → answers (block (joined outs)) c .no ≡ accepted
       → BlocksJoin outs c l
   pub frame-in-parts : (value : List ℕ) (outs : List (List ℕ)) (c : Chip) (l : Ledger) → OfItsType c
       → framePlayed value (length (joined outs)) c .answer .no ≡ accepted → FrameInParts value outs c l
   -- Any calls with frames loaded and played among them come to calls, and demand 3 holds of them.
-  pub plays : (plays : List Play) (c : Chip) → afterPlays plays c ≡ after (allCalls plays c) c
+  pub plays : (plays : List Play) (c : Chip) → OfItsType c → afterPlays plays c ≡ after (allCalls plays c) c
   pub plays-hold : (master rate : ℕ) → clocksNo master rate ≡ accepted → (plays : List Play)
       → Holds master rate (afterPlays plays (withClocks master rate .chip))
       (ledger (allCalls plays (withClocks master rate .chip)) (withClocks master rate .chip) emptyLedger)

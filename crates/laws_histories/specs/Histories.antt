@@ -7,14 +7,15 @@ use Prim.Native.Nat.{ℕ, zero, suc}
 use lib.ListN.{length, replicate}
 use Rattle.laws.specs.All.{All}
 use Rattle.refusals.specs.Numbers.{accepted}
-use Rattle.text_fields.specs.Fields.{hexByte}
 use Rattle.dump.specs.Checked.{verdictOf}
 use Rattle.chip.specs.declared.Chip.{Chip}
 use Rattle.calls_making.specs.Making.{withClocks}
 use Rattle.calls_words.specs.Blocks.{blockBuffer}
+use Rattle.registers.specs.Writes.{RegisterWrite}
+use Rattle.dump_writes.specs.Writes.{frameWrites}
 use Rattle.dump_frames.specs.Frame.{frameLoaded, framePlayed}
 use Rattle.dump_played.specs.Whole.{valueOf}
-use Rattle.laws_promises.specs.History.{Call, reset, load-registers, block, answers, after, Entry, isAccepted}
+use Rattle.laws_promises.specs.History.{Call, reset, write-register, block, answers, after, Entry, isAccepted}
 
 -- Each call of a list answers 0, on the chip that those ahead of it leave.
 abbrev pub AllAccepted : List Call → Chip → Type 0
@@ -25,24 +26,22 @@ AllAccepted (x ∷ calls) c = (answers x c .no ≡ accepted) × AllAccepted call
 abbrev pub values : List Entry → List ℕ
 values ws = map (λ (w : Entry). w .value) ws
 
--- A frame's registers as `load_registers` takes them: R0 to R13, and two zeros that it does not write.
-unfoldable pub frameBytes : List ℕ → List ℕ
-frameBytes value =
-    hexByte value 0 ∷ hexByte value 1 ∷ hexByte value 2 ∷ hexByte value 3 ∷ hexByte value 4 ∷ hexByte value 5 ∷ hexByte value 6
-    ∷ hexByte value 7 ∷ hexByte value 8 ∷ hexByte value 9 ∷ hexByte value 10 ∷ hexByte value 11 ∷ hexByte value 12
-    ∷ hexByte value 13 ∷ 0 ∷ 0 ∷ []
+-- A frame's writes as calls: a `write_register` for each. 01, "The dump player": "Each frame writes R0..R13 at once in order"; by request 02
+-- a frame whose last byte is ff writes R0..R12 only.
+unfoldable pub writeCalls : List ℕ → List Call
+writeCalls value = map (λ (w : RegisterWrite). write-register (w .register) (w .value)) (frameWrites value)
 
--- 01, "The dump player": "Each frame writes R0..R13 at once in order, then renders its words".
-abbrev pub loadThenRender : List ℕ → List ℕ → List Call
-loadThenRender value out = load-registers (frameBytes value) ∷ block out ∷ []
+-- "then renders its words"
+abbrev pub writeThenRender : List ℕ → List ℕ → List Call
+writeThenRender value out = writeCalls value ++ block out ∷ []
 
 -- Playing a frame with a lent buffer (`play_frame`), as calls. A frame that is refused changes nothing: it is no call.
 unfoldable pub frameCalls : List ℕ → List ℕ → Chip → List Call
-frameCalls value out c = cond (isAccepted (framePlayed value (length out) c .answer .no)) (loadThenRender value out) []
+frameCalls value out c = cond (isAccepted (framePlayed value (length out) c .answer .no)) (writeThenRender value out) []
 
--- Loading a frame and rendering nothing (`load_frame`), as calls: one, or none where it is refused.
+-- Loading a frame and rendering nothing (`load_frame`), as calls: its writes, or none where it is refused.
 unfoldable pub loadCalls : List ℕ → Chip → List Call
-loadCalls value c = cond (isAccepted (frameLoaded value c .no)) (load-registers (frameBytes value) ∷ []) []
+loadCalls value c = cond (isAccepted (frameLoaded value c .no)) (writeCalls value) []
 
 -- A history with frames among its calls: what it leaves, and the calls that it comes to.
 pub data Play : Type 0 where
@@ -88,7 +87,7 @@ madeFor text = withClocks (verdictOf text .master) (verdictOf text .rate) .chip
 -- The calls of a dump's first f frames. (A block's words do not depend on what stood in the buffer: zeros stand for it.)
 unfoldable pub dumpCalls : List ℕ → ℕ → List Call
 dumpCalls text zero = []
-dumpCalls text (suc f) = dumpCalls text f ++ loadThenRender (valueOf text f) (replicate (verdictOf text .words) 0)
+dumpCalls text (suc f) = dumpCalls text f ++ writeThenRender (valueOf text f) (replicate (verdictOf text .words) 0)
 
 -- "since its making or last reset": where the ledger of some calls on a handed-in record begins. With no reset among them that is the
 -- record itself, else the chip that the last reset left.

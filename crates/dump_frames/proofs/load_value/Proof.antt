@@ -1,9 +1,9 @@
--- `dump_frames::load_value` meets its contract: 22, then 8, then all registers. Assumes nothing.
-use Rattle.dump_frames.proofs.Playing.{not-false, value-loaded}
-use Rattle.dump_frames.specs.Frame.{frameLoaded}
-use Rattle.laws.proofs.Tests.{on-no, on-yes}
+-- `dump_frames::load_value` meets its contract: 22, then 8, then the frame's writes. Assumes nothing.
 use mathlib.Core.Path.{refl}
 use borrow.Author.Needs.{needs}
+use Rattle.laws.proofs.Tests.{on-no, on-yes}
+use Rattle.dump_frames.specs.Frame.{frameChip, frameLoaded}
+use Rattle.dump_frames.proofs.Playing.{not-false}
 use Rattle.dump_frames.proofs.load_value.Statement.{statement}
 use Rattle.dump_frames.proofs.load_value.Tie as tie
 
@@ -24,14 +24,18 @@ returns-2 : tie.Need-returns-2
 unfolding frameLoaded
 returns-2 c = on-yes _ _ _ _ _ (c .before .before .before .in-range .ensures) (c .before .before .if1 .left) (on-no _ _ _ _ _ (c .before .is-frame .ensures) (c .if2 .taken) refl)
 
-registers-of-requires : tie.Need-registers-of-requires
-registers-of-requires c κs = not-false _ (c .before .is-frame .ensures) (c .if2 .left)
+write-frame-requires : tie.Need-write-frame-requires
+write-frame-requires c κs = not-false _ (c .before .is-frame .ensures) (c .if2 .left)
 
-load-registers-requires : tie.Need-load-registers-requires
-load-registers-requires c κs = search needs
+with-voice-requires : tie.Need-with-voice-requires
+with-voice-requires c κs = search needs
+
+accepted-requires : tie.Need-accepted-requires
+accepted-requires c κs = search needs
 
 returns-3 : tie.Need-returns-3
-returns-3 c = value-loaded _ _ (not-false _ (c .before .before .before .before .before .in-range .ensures) (c .before .before .before .before .if1 .left)) (not-false _ (c .before .before .before .is-frame .ensures) (c .before .before .if2 .left)) _ (c .before .registers-of .ensures) (c .load-registers .ensures)
+unfolding frameLoaded frameChip
+returns-3 c = on-yes _ _ _ _ _ (c .before .before .before .before .before .before .in-range .ensures) (c .before .before .before .before .before .if1 .left) (on-yes _ _ _ _ _ (c .before .before .before .before .is-frame .ensures) (c .before .before .before .if2 .left) (rw (c .accepted .ensures, c .before .with-voice .ensures, c .before .before .write-frame .ensures)))
 
 pub load-value-spec : {M : Type 1} → statement M
 load-value-spec =
@@ -42,6 +46,7 @@ load-value-spec =
     returns
     is-frame-requires
     returns-2
-    registers-of-requires
-    load-registers-requires
+    write-frame-requires
+    with-voice-requires
+    accepted-requires
     returns-3)

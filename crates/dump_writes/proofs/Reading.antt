@@ -1,6 +1,6 @@
--- The bytes that hold a frame's registers, byte after byte; loading them is the frame's writes. Assumes nothing.
+-- A frame's digits read byte after byte: `bytes_of`'s invariant and its moves. Assumes nothing.
 use mathlib.Core.Bool.{true}
-use mathlib.Core.Path.{_≡_, ap, _∙_}
+use mathlib.Core.Path.{_≡_, _∙_}
 use mathlib.Core.List.{List}
 use Prim.Native.Nat.{ℕ, _+_, _*_, _≤_, _<_}
 use native.Mathlib.Omega.{arith}
@@ -8,14 +8,10 @@ use borrow.Author.Tests.{eqb-true}
 use lib.Dec.{eqb}
 use lib.ListN.{length, getD, set, length-set}
 use lib.Seq.{getD-set-same, getD-set-other}
+use Rattle.laws.proofs.Lists.{both-parts}
 use Rattle.laws.proofs.Tests.{by-same}
 use Rattle.text_fields.specs.Fields.{allHex, hexByte}
-use Rattle.laws.proofs.Lists.{both-parts}
 use Rattle.dump_lines.specs.OneLine.{isFrame}
-use Rattle.registers.specs.Writes.{RegisterWrite, appliedInOrder, loaded}
-use Rattle.registers.proofs.InOrder.{registers-same}
-use Rattle.registers.specs.declared.Voice.{Voice}
-use Rattle.dump_frames.specs.Frame.{frameWrites, Registers}
 
 -- a frame's value has 28 digits
 module _ (value : List ℕ) (e : isFrame value ≡ true) where
@@ -29,13 +25,13 @@ module _ (value : List ℕ) (e : isFrame value ≡ true) where
   pub frame-room : {i : ℕ} → i < 14 → 2 * i + 1 < length value
   frame-room h = let z : length value ≡ 28 = eqb-true (length value) 28 (parts .0) in omega arith
 
--- the first i bytes hold their registers
+-- the first i bytes are the frame's
 pub record Holding (value bytes : List ℕ) (i : ℕ) : Type 0 where
-  pub long : length bytes ≡ 16
+  pub long : length bytes ≡ 14
   pub few : i ≤ 14
   pub held : (k : ℕ) → k < i → getD bytes k 0 ≡ hexByte value k
 
-pub holding-start : (value : List ℕ) {bytes : List ℕ} → length bytes ≡ 16 → Holding value bytes 0
+pub holding-start : (value : List ℕ) {bytes : List ℕ} → length bytes ≡ 14 → Holding value bytes 0
 holding-start value l = record { long = l; few = omega arith; held = λ k h. absurd (omega arith) }
 
 pub holding-on : {value bytes : List ℕ} {i b : ℕ} → Holding value bytes i → i < 14 → b ≡ hexByte value i → Holding value (set bytes i b) (i + 1)
@@ -48,11 +44,5 @@ holding-on {value} {bytes} {i} {b} m h e =
           (λ n. getD-set-other bytes i k b 0 n ∙ m .held k (omega arith));
     }
 
-pub holding-ends : {value bytes : List ℕ} {i : ℕ} → Holding value bytes i → 14 ≤ i → Registers value bytes
+pub holding-ends : {value bytes : List ℕ} {i : ℕ} → Holding value bytes i → 14 ≤ i → (k : ℕ) → k < 14 → getD bytes k 0 ≡ hexByte value k
 holding-ends m h k g = m .held k (omega arith)
-
--- bytes that hold a frame's registers are loaded as its writes
-pub loaded-frame : (value bytes : List ℕ) → Registers value bytes → (v : Voice) → loaded bytes v ≡ appliedInOrder (frameWrites value) v
-unfolding frameWrites
-loaded-frame value bytes r v =
-    ap (λ (ws : List RegisterWrite). appliedInOrder ws v) (registers-same (λ register. getD bytes register 0) (hexByte value) 14 0 (λ k h. r k (omega arith)))

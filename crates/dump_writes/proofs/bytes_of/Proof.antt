@@ -1,16 +1,16 @@
--- `dump_frames::registers_of` meets its contract: the first i bytes hold their registers (`Holding`). Assumes nothing.
+-- `dump_writes::bytes_of` meets its contract: the first i bytes are the frame's (`Holding`). Assumes nothing.
 use mathlib.Core.Path.{refl}
 use Prim.Native.Nat.{_-_}
 use native.Mathlib.Omega.{arith}
-use Rattle.dump_frames.proofs.Loading.{Holding, holding-start, holding-on, holding-ends, frame-hex, frame-room}
-use Rattle.dump_frames.proofs.registers_of.Statement.{statement}
-use Rattle.dump_frames.proofs.registers_of.Tie as tie
+use Rattle.dump_writes.proofs.Reading.{Holding, holding-start, holding-on, holding-ends, frame-hex, frame-room}
+use Rattle.dump_writes.proofs.bytes_of.Statement.{statement}
+use Rattle.dump_writes.proofs.bytes_of.Tie as tie
 
 abbrev Inv-loop : tie.InvT-loop
-Inv-loop value registers₀ i₀ registers i = Holding value registers i
+Inv-loop value bytes₀ i₀ bytes i = Holding value bytes i
 
 abbrev μ-loop : tie.MeasureT-loop
-μ-loop value registers₀ i₀ registers i = 14 - i
+μ-loop value bytes₀ i₀ bytes i = 14 - i
 
 loop-holds : tie.Need-loop-holds Inv-loop μ-loop
 loop-holds c = holding-start _ refl
@@ -18,8 +18,8 @@ loop-holds c = holding-start _ refl
 hex-byte-requires : tie.Need-hex-byte-requires Inv-loop μ-loop
 hex-byte-requires c κs = (search frame-hex, search frame-room)
 
-array-write-registers : tie.Need-array-write-registers Inv-loop μ-loop
-array-write-registers c = omega arith
+array-write-bytes : tie.Need-array-write-bytes Inv-loop μ-loop
+array-write-bytes c = omega arith
 
 add-i : tie.Need-add-i Inv-loop μ-loop
 add-i c = omega arith
@@ -33,15 +33,15 @@ loop-again c = search holding-on
 returns : tie.Need-returns Inv-loop μ-loop
 returns c = search holding-ends
 
-pub registers-of-spec : {M : Type 1} → statement M
-registers-of-spec =
+pub bytes-of-spec : {M : Type 1} → statement M
+bytes-of-spec =
     tie.close
     (tie.spec
     Inv-loop
     μ-loop
     loop-holds
     hex-byte-requires
-    array-write-registers
+    array-write-bytes
     add-i
     loop-less
     loop-again
