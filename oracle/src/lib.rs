@@ -20,3 +20,4 @@ pub mod refusal;
 pub mod ring;
 pub mod script;
 pub mod set;
+pub mod shape_cases;

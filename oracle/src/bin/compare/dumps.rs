@@ -75,14 +75,33 @@ fn good(random: &mut Random) -> Vec<String> {
 }
 
 fn frame(random: &mut Random) -> String {
-    let digits: String = (0..14).map(|_| format!("{:02x}", random.byte())).collect();
+    let mut registers: [u8; 14] = std::array::from_fn(|_| random.byte());
     // Short periods and audible channels, or the words would hardly move.
-    let short = ["0", "1", "2", "3"].map(|low| format!("0{low}00"));
-    let tone = random.pick(&[&short[0], &short[1], &short[2], &short[3]]);
+    let tone = [random.below(4) as u8, 0];
     match random.below(3) {
-        0 => format!("regs={digits}\n"),
-        1 => format!("regs={tone}{}\n", &digits[4..]),
-        _ => format!("regs={tone}{tone}{tone}{}38{}\n", &digits[12..14], &digits[16..]),
+        0 => {}
+        1 => registers[..2].copy_from_slice(&tone),
+        _ => {
+            registers[..6].copy_from_slice(&tone.repeat(3));
+            registers[7] = 0x38;
+        }
+    }
+    // Likewise the envelope, or a restart would hardly show.
+    if registers[12] & 1 == 0 {
+        registers[11] &= 0x0f;
+        registers[12] = 0;
+    }
+    registers[13] = shape(registers[13]);
+    let digits: String = registers.iter().map(|byte| format!("{byte:02x}")).collect();
+    format!("regs={digits}\n")
+}
+
+/// Of the bytes a third gives ff and a third one that a slip takes for it (02, request 02); the rest stay.
+fn shape(byte: u8) -> u8 {
+    match byte {
+        0..85 => 0xff,
+        85..170 => [0x0f, 0x1f, 0xef, 0xfe, 0xf0][byte as usize % 5],
+        170.. => byte,
     }
 }
 

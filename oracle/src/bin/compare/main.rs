@@ -13,6 +13,7 @@ mod scripts;
 mod shrink;
 mod tally;
 
+use oracle::shape_cases;
 use players::Players;
 use random::Random;
 use scripts::{Batches, Scripts};
@@ -27,7 +28,8 @@ const SHRINKING: Duration = Duration::from_secs(10);
 
 const USAGE: &str = "usage: compare COUNT SEED [--replay PATH] [--player PATH] [--first] [--script] [--count]
 
-Draws scripts of COUNT calls in all, and a dump for each 100 calls, and compares the oracle with
+Draws scripts of COUNT calls in all, and a dump for each 100 calls, and compares the oracle on these
+and, last, on the cases of 02's request 02 with
 --replay PATH   a program that reads a script, and
 --player PATH   a program that reads a dump.
 With neither, the oracle's own programs stand in, which tests only the comparing.
@@ -96,6 +98,10 @@ fn print_scripts(options: &Options) {
 fn print_counts(options: &Options) {
     let mut batches = Batches::new(options);
     while batches.next().is_some() {}
+    let mut for_dumps = Random(!options.seed);
+    for _ in 0..options.count.div_ceil(CALLS_A_DUMP) {
+        batches.tally.dump(&dumps::dump(&mut for_dumps));
+    }
     batches.tally.print();
 }
 
@@ -123,6 +129,14 @@ fn compare(options: &Options) {
             }
         }
     }
+    // Last, so that it is seen whether drawn dumps show a fault.
+    if let Some(path) = &options.player {
+        for case in shape_cases::all() {
+            if !(options.first && differ(&scripts, &players)) {
+                players.compare_case(path, &case);
+            }
+        }
+    }
     report(options, &scripts, &players);
     std::process::exit(differ(&scripts, &players) as i32);
 }
@@ -136,8 +150,8 @@ fn report(options: &Options, scripts: &Scripts, players: &Players) {
     }
     if let Some(path) = &options.player {
         println!(
-            "dumps={} refused={} words={} differences={} ({path})",
-            players.dumps, players.refused, players.words, players.differences
+            "dumps={} refused={} words={} cases={} differences={} ({path})",
+            players.dumps, players.refused, players.words, players.cases, players.differences
         );
     }
 }

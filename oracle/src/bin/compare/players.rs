@@ -6,7 +6,8 @@ use crate::other;
 use crate::parting::{Parting, parting};
 use crate::random::Random;
 use crate::shrink::shortest;
-use oracle::dump::play;
+use oracle::dump::{play, read};
+use oracle::shape_cases::Case;
 use std::time::Instant;
 
 /// A dump up to this length is shrunk byte by byte too, and printed whole.
@@ -17,6 +18,7 @@ pub struct Players {
     pub dumps: u64,
     pub refused: u64,
     pub words: u64,
+    pub cases: u64,
     pub differences: u64,
 }
 
@@ -29,11 +31,21 @@ impl Players {
             true => self.refused += 1,
             false => self.words += ours.split(|byte| *byte == b'\n').count() as u64 - 2,
         }
-        if parting(&ours, &other::run(path, dump.clone())).is_some() {
+        self.beside(path, &dump, &ours, &format!("dump {}", self.dumps));
+    }
+
+    pub fn compare_case(&mut self, path: &str, case: &Case) {
+        let dump = case.text().into_bytes();
+        self.cases += 1;
+        self.beside(path, &dump, &played(&dump), &format!("case {}", case.name));
+    }
+
+    fn beside(&mut self, path: &str, dump: &[u8], ours: &[u8], name: &str) {
+        if parting(ours, &other::run(path, dump.to_vec())).is_some() {
             self.differences += 1;
             if self.differences == 1 {
-                println!("first difference at dump {}", self.dumps);
-                show(path, &dump);
+                println!("first difference at {name}");
+                show(path, dump);
             }
         }
     }
@@ -49,12 +61,30 @@ fn parts(path: &str, dump: &[u8]) -> Option<Parting> {
     parting(&played(dump), &other::run(path, dump.to_vec()))
 }
 
+fn lines(dump: &[u8]) -> Vec<Vec<u8>> {
+    dump.split_inclusive(|byte| *byte == b'\n').map(<[u8]>::to_vec).collect()
+}
+
+/// A dump that is played without the frames that are not needed: `frames=` says how many are left.
+fn fewer_frames(dump: &[u8], fails: &dyn Fn(&[u8]) -> bool) -> Vec<u8> {
+    if read(dump).is_err() {
+        return dump.to_vec();
+    }
+    let mut head = lines(dump);
+    let frames = head.split_off(4);
+    let of = |frames: &[Vec<u8>]| {
+        let count = format!("frames={}\n", frames.len()).into_bytes();
+        [head[..3].concat(), count, frames.concat()].concat()
+    };
+    of(&shortest(&frames, &mut |frames| fails(&of(frames))))
+}
+
 /// Shrinks the dump and prints what is left.
 fn show(path: &str, dump: &[u8]) {
     let begun = Instant::now();
     let fails = |dump: &[u8]| begun.elapsed() <= SHRINKING && parts(path, dump).is_some();
-    let lines: Vec<Vec<u8>> = dump.split_inclusive(|byte| *byte == b'\n').map(<[u8]>::to_vec).collect();
-    let mut dump = shortest(&lines, &mut |lines| fails(&lines.concat())).concat();
+    let dump = fewer_frames(dump, &fails);
+    let mut dump = shortest(&lines(&dump), &mut |lines| fails(&lines.concat())).concat();
     if dump.len() <= SHORT {
         dump = shortest(&dump, &mut |bytes| fails(bytes));
     }

@@ -1,6 +1,7 @@
 //! What was drawn, counted: `--count` prints it.
 
 use oracle::call::{self, Call};
+use oracle::dump::{play, read};
 use oracle::refusal::{ACCEPTED, NO_SUCH_CHANNEL, QUEUE_MAX};
 use oracle::script::Bench;
 use oracle::set::Field;
@@ -121,6 +122,33 @@ impl Tally {
                     self.see("ring's places when full, by calls alone", ring.head);
                 }
             }
+        }
+    }
+
+    pub fn dump(&mut self, text: &[u8]) {
+        self.count("dumps");
+        let Ok(dump) = read(text) else { return };
+        self.count("dumps that are played");
+        for frame in &dump.frames {
+            self.count("frames");
+            match frame[13] {
+                0xff => self.count("frames of ff"),
+                0x0f | 0x1f | 0xef | 0xfe | 0xf0 => self.count("frames of 0f, 1f, ef, fe or f0"),
+                _ => {}
+            }
+            if frame[8..=10].iter().any(|volume| volume & 0x10 != 0) && frame[12] == 0 && frame[11] < 16 {
+                self.count("frames with an envelope on, of a period up to 15");
+            }
+        }
+        // No other line of a dump that is played ends so.
+        let written = String::from_utf8_lossy(text).replace("ff\n", "0f\n");
+        let words = |text: &[u8]| {
+            let mut out = Vec::new();
+            play(text, &mut out).unwrap();
+            out
+        };
+        if words(written.as_bytes()) != words(text) {
+            self.count("dumps whose words would change were ff written");
         }
     }
 
