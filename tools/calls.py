@@ -6,8 +6,8 @@ import re
 from tree import ROOT, code_of, crates, edit_files_of, files_of, kind_of, lines_of
 
 # The libraries under `replay` are the bench's own tools: most promise nothing more than that they are safe and end, and what they
-# print is compared with the crate's (docs/DECISIONS.md, "The libraries under `replay`").
-EXEMPT = "script_"
+# print is compared with the crate's (docs/DECISIONS.md, "The libraries under `replay`"). And what `standard_input` reads no promise can say.
+EXEMPT = ("script_", "standard_input")
 
 PROMISES = os.path.join(ROOT, "docs", "PROMISES.md")
 ITEM = re.compile(r'^impl\b(?:<.*?>)? (?:\S+ for )?(\w+)|^\}|^ *(pub )?(?:const |unsafe |extern "C" )*fn (\w+)', re.M)

@@ -4,14 +4,17 @@ use mathlib.Core.Path.{_≡_, refl, ap}
 use mathlib.Core.List.{List}
 use Prim.Native.Nat.{ℕ, zero, suc, _+_, _/_, _≤_, _<_}
 use native.Mathlib.Omega.{arith}
-use lib.ListN.{length}
 use Rattle.laws.proofs.Tests.{by-cond, by-lt}
 use Rattle.text_lines.specs.Bytes.{bytes}
 use Rattle.text_lines.specs.Lines.{lineAt}
-use Rattle.dump_lines.specs.OneLine.{lineEntryAt, masterLineNo, rateLineNo, wordsLineNo, framesLineNo, frameAt}
+use Rattle.text_entries.specs.Entries.{lineEntryAt}
+use Rattle.dump_lines.specs.OneLine.{wordsLineNo, framesLineNo, frameAt}
+use Rattle.dump_clocks.specs.Clocks.{clockLines}
+use Rattle.dump_clocks.specs.declared.ClockLines.{ClockLines}
+use Rattle.dump_clocks.proofs.Paced.{Paced, accepted-paced}
 use Rattle.dump.specs.Checked.{acceptedWith, framesFrom, sized, verdictOf}
 use Rattle.dump.specs.declared.Verdict.{Verdict}
-use Rattle.dump_lines.proofs.Ranges.{master-range, rate-range, words-range, frames-range}
+use Rattle.dump_lines.proofs.Ranges.{words-range, frames-range}
 
 -- the place of the line f lines on
 abbrev pub placeFrom : List ℕ → ℕ → ℕ → ℕ
@@ -54,17 +57,12 @@ run t good (suc k) line at =
 refused-not : {v : Verdict} {n : ℕ} (t : List ℕ) → 0 < n → n ≡ 0 → Laid t v
 refused-not t h e = absurd (omega arith)
 
-record Paced (master rate : ℕ) : Type 0 where
-  top : master ≤ 1073741823
-  some : 0 < rate
-  slow : rate ≤ master / 8
-
-sized-laid : (t : List ℕ) (master rate at : ℕ) → Paced master rate → sized t master rate at .no ≡ 0 → Laid t (sized t master rate at)
+sized-laid : (t : List ℕ) (k : ClockLines) → Paced k → sized t k .no ≡ 0 → Laid t (sized t k)
 unfolding sized
-sized-laid t master rate at p =
-    let three = lineEntryAt (bytes "words=") t at in
-    let four = lineEntryAt (bytes "frames=") t (three .next) in
-    let good = acceptedWith master rate (three .value) (four .value) (four .next) in
+sized-laid t k p =
+    let three = lineEntryAt (bytes "words=") t (k .third) in
+    let four = lineEntryAt (bytes "frames=") t (k .fourth) in
+    let good = acceptedWith (k .master) (k .rate) (three .value) (four .value) (four .next) in
     by-lt (λ (v : Verdict). v .no ≡ 0 → Laid t v) 0 (wordsLineNo three) (λ h e. refused-not t h e)
     (λ h. by-lt (λ (v : Verdict). v .no ≡ 0 → Laid t v) 0 (framesLineNo four) (λ g e. refused-not t g e)
     (λ g e.
@@ -75,10 +73,6 @@ sized-laid t master rate at p =
 pub accepted-laid : (t : List ℕ) → verdictOf t .no ≡ 0 → Laid t (verdictOf t)
 unfolding verdictOf
 accepted-laid t =
-    let one = lineEntryAt (bytes "master=") t 0 in
-    let two = lineEntryAt (bytes "rate=") t (one .next) in
-    by-lt (λ (v : Verdict). v .no ≡ 0 → Laid t v) 65536 (length t) (λ h e. absurd (omega arith))
-    (λ h. by-lt (λ (v : Verdict). v .no ≡ 0 → Laid t v) 0 (masterLineNo one) (λ g e. refused-not t g e)
-    (λ g. by-lt (λ (v : Verdict). v .no ≡ 0 → Laid t v) 0 (rateLineNo (one .value) two) (λ g e. refused-not t g e)
-    (λ k. sized-laid t (one .value) (two .value) (two .next)
-    (record { top = master-range one g; some = rate-range two (one .value) k .0; slow = rate-range two (one .value) k .1 }))))
+    let k = clockLines t in
+    by-lt (λ (v : Verdict). v .no ≡ 0 → Laid t v) 0 (k .no) (λ h e. refused-not t h e)
+    (λ h. sized-laid t k (accepted-paced t (omega (arith, h))))

@@ -4,10 +4,13 @@ use mathlib.Core.Bool.{cond}
 use mathlib.Core.List.{List}
 use lib.Dec.{ltb}
 use lib.ListN.{length}
-use Rattle.refusals.specs.Numbers.{accepted, lineNotOfForm, bytesAfterTheEnd, dumpTooLong}
+use Rattle.refusals.specs.Numbers.{accepted, lineNotOfForm, bytesAfterTheEnd}
 use Rattle.text_lines.specs.Bytes.{bytes}
 use Rattle.text_lines.specs.Lines.{lineAt}
-use Rattle.dump_lines.specs.OneLine.{lineEntryAt, masterLineNo, rateLineNo, wordsLineNo, framesLineNo, frameAt}
+use Rattle.text_entries.specs.Entries.{lineEntryAt}
+use Rattle.dump_lines.specs.OneLine.{wordsLineNo, framesLineNo, frameAt}
+use Rattle.dump_clocks.specs.Clocks.{clockLines}
+use Rattle.dump_clocks.specs.declared.ClockLines.{ClockLines}
 use Rattle.dump.specs.declared.Verdict.{Verdict}
 
 abbrev pub refusedAt : ℕ → ℕ → Verdict
@@ -25,22 +28,20 @@ framesFrom text good (suc left) line at =
     cond (frameAt text at) more
     (refusedAt lineNotOfForm line)
 
--- lines 3 and 4, then the frames
-unfoldable pub sized : List ℕ → ℕ → ℕ → ℕ → Verdict
-sized text master rate at =
-    let three = lineEntryAt (bytes "words=") text at in
-    let four = lineEntryAt (bytes "frames=") text (three .next) in
+-- lines 3 and 4 (9), then the frames
+unfoldable pub sized : List ℕ → ClockLines → Verdict
+sized text k =
+    let three = lineEntryAt (bytes "words=") text (k .third) in
+    let four = lineEntryAt (bytes "frames=") text (k .fourth) in
+    let good = acceptedWith (k .master) (k .rate) (three .value) (four .value) (four .next) in
     cond (ltb 0 (wordsLineNo three)) (refusedAt (wordsLineNo three) 3)
     (cond (ltb 0 (framesLineNo four)) (refusedAt (framesLineNo four) 4)
-    (framesFrom text (acceptedWith master rate (three .value) (four .value) (four .next)) (four .value) 5 (four .next)))
+    (framesFrom text good (four .value) 5 (four .next)))
 
 -- The whole dump is checked first: 11 (line 0), then line by line, form before range (1 on line 1; 2, 3 on line 2; 9 on
--- lines 3 and 4), then 10 at the line after the last.
+-- lines 3 and 4), then 10 at the line after the last. 11, 1, 2 and 3 are told by the clock lines.
 unfoldable pub verdictOf : List ℕ → Verdict
 verdictOf text =
-    let one = lineEntryAt (bytes "master=") text 0 in
-    let two = lineEntryAt (bytes "rate=") text (one .next) in
-    cond (ltb 65536 (length text)) (refusedAt dumpTooLong 0)
-    (cond (ltb 0 (masterLineNo one)) (refusedAt (masterLineNo one) 1)
-    (cond (ltb 0 (rateLineNo (one .value) two)) (refusedAt (rateLineNo (one .value) two) 2)
-    (sized text (one .value) (two .value) (two .next))))
+    let k = clockLines text in
+    cond (ltb 0 (k .no)) (refusedAt (k .no) (k .line))
+    (sized text k)

@@ -1,15 +1,11 @@
 // The whole dump, checked line by line. 01, "The dump player".
 ghost use mathlib.Core.Path.{_≡_};
 ghost use Rattle.dump.specs.Checked.{framesFrom, refusedAt, sized, verdictOf};
-ghost use Rattle.dump_header.specs.Entries.{headerOf};
-use dump_header::Header;
-use dump_header::header_of;
+use dump_clocks::ClockLines;
+use dump_clocks::clock_lines;
 use dump_lines::frames_line_no;
-use dump_lines::master_line_no;
-use dump_lines::rate_line_no;
 use dump_lines::words_line_no;
-
-pub const LONGEST_DUMP: usize = 65_536;
+use text_entries::line_entry_at;
 
 // `no` 0 is accepted: `line` is 0, and `body` is the place of the first frame's line.
 // Any other number is 01's refusal, at `line`, and the rest is 0.
@@ -26,34 +22,23 @@ pub struct Verdict {
 pub fn check(text: &[u8]) -> Verdict
     ensures { λ r. ⌜ r ≡ verdictOf (now (text .entry)) ⌝ }
 {
-    if text.len() > LONGEST_DUMP {
-        return refused(refusals::DUMP_TOO_LONG, 0);
+    let clocks = clock_lines(text);
+    if clocks.no > 0 {
+        return refused(clocks.no, clocks.line);
     }
-    let header = header_of(text);
-    let one = header.master;
-    let first = master_line_no(one);
-    if first > 0 {
-        return refused(first, 1);
-    }
-    let two = header.rate;
-    let second = rate_line_no(one.value, two);
-    if second > 0 {
-        return refused(second, 2);
-    }
-    sizes(text, one.value as u32, two.value as u32, header)
+    sizes(text, clocks)
 }
 
 // Lines 3 and 4, and then the frames.
-fn sizes(text: &[u8], master: u32, rate: u32, header: Header) -> Verdict
-    requires { ⌜ header ≡ headerOf (now text) ⌝ }
-    ensures { λ r. ⌜ r ≡ sized (now (text .entry)) master rate (header .rate .next) ⌝ }
+fn sizes(text: &[u8], clocks: ClockLines) -> Verdict
+    ensures { λ r. ⌜ r ≡ sized (now (text .entry)) clocks ⌝ }
 {
-    let three = header.words;
+    let three = line_entry_at(b"words=", text, clocks.third);
     let third = words_line_no(three);
     if third > 0 {
         return refused(third, 3);
     }
-    let four = header.frames;
+    let four = line_entry_at(b"frames=", text, clocks.fourth);
     let fourth = frames_line_no(four);
     if fourth > 0 {
         return refused(fourth, 4);
@@ -61,8 +46,8 @@ fn sizes(text: &[u8], master: u32, rate: u32, header: Header) -> Verdict
     let good = Verdict {
         no: refusals::ACCEPTED,
         line: 0,
-        master: master,
-        rate: rate,
+        master: clocks.master,
+        rate: clocks.rate,
         words: three.value as u16,
         frames: four.value as u16,
         body: four.next,

@@ -1,6 +1,6 @@
--- What a header line's number of 0 tells of its value, and the type that the value fits. Assumes nothing.
-use mathlib.Core.Bool.{Bool, true, false, cond}
-use mathlib.Core.Path.{_≡_, refl}
+-- What a header line's number of 0 tells of its value, and the types that the value and the number fit. Assumes nothing.
+use mathlib.Core.Bool.{false}
+use mathlib.Core.Path.{_≡_}
 use Prim.Native.Nat.{ℕ, _/_, _≤_, _<_}
 use native.Mathlib.Omega.{arith}
 use borrow.Author.Tests.{ltb-false, eqb-false}
@@ -8,15 +8,8 @@ use lib.Dec.{ltb, eqb}
 use mir.Syntax.{w16, w32}
 use mir.Val.{Fits}
 use Rattle.dump_lines.specs.OneLine.{masterLineNo, rateLineNo, wordsLineNo, framesLineNo}
-use Rattle.dump_lines.specs.declared.Entry.{Entry}
-
-zero-lt : (n : ℕ) → (n ≡ 0 → ⊥) → 0 < n
-zero-lt n h = omega arith
-
--- a number of 0 says that the test before it did not hold
-passed : (t : Bool) (a k : ℕ) → 0 < a → cond t a k ≤ 0 → (t ≡ false) × (k ≤ 0)
-passed true a k p h = absurd (omega arith)
-passed false a k p h = (refl, h)
+use Rattle.text_entries.specs.declared.Entry.{Entry}
+use Rattle.text_entries.proofs.Numbers.{zero-lt, passed, either}
 
 -- an entry whose number is 0 has its form, and is in range
 module _ (e : Entry) where
@@ -59,3 +52,21 @@ words-fits e q h = omega (arith, words-range e (rw (← q) h) .1)
 
 pub frames-fits : (e : Entry) {n : ℕ} → n ≡ framesLineNo e → n ≤ 0 → Fits w16 (e .value)
 frames-fits e q h = omega (arith, frames-range e (rw (← q) h) .1)
+
+-- a line's number is one of the table's
+module _ (e : Entry) where
+  pub master-small : masterLineNo e < 256
+  unfolding masterLineNo
+  master-small = either (e .bad) (omega arith) (either (ltb 1073741823 (e .value)) (omega arith) (omega arith))
+
+  pub rate-small : (master : ℕ) → rateLineNo master e < 256
+  unfolding rateLineNo
+  rate-small master = either (e .bad) (omega arith) (either (eqb (e .value) 0) (omega arith) (either (ltb _ (e .value)) (omega arith) (omega arith)))
+
+  pub words-small : wordsLineNo e < 256
+  unfolding wordsLineNo
+  words-small = either (e .bad) (omega arith) (either (eqb (e .value) 0) (omega arith) (either (ltb 4096 (e .value)) (omega arith) (omega arith)))
+
+  pub frames-small : framesLineNo e < 256
+  unfolding framesLineNo
+  frames-small = either (e .bad) (omega arith) (either (ltb 1900 (e .value)) (omega arith) (omega arith))

@@ -6,16 +6,10 @@ use lib.Dec.{ltb, eqb}
 use lib.ListN.{length}
 use Rattle.refusals.specs.Numbers.{accepted, lineNotOfForm, sizeOutOfRange}
 use Rattle.clocks.specs.Clocks.{masterNo, rateNo}
-use Rattle.text_fields.specs.Fields.{decimalOf, allHex}
+use Rattle.text_fields.specs.Fields.{allHex}
 use Rattle.text_lines.specs.Bytes.{bytes}
-use Rattle.text_lines.specs.Lines.{lineAt, valueAt}
-use Rattle.dump_lines.specs.declared.Entry.{Entry}
-
--- a number's line at a place, which is bad where it is missing, and the place of the next line
-unfoldable pub lineEntryAt : List ℕ → List ℕ → ℕ → Entry
-lineEntryAt key text at =
-    let number = decimalOf (valueAt key text at) in
-    record { bad = number .bad; value = number .value; next = lineAt text at .next }
+use Rattle.text_lines.specs.Lines.{valueAt}
+use Rattle.text_entries.specs.declared.Entry.{Entry}
 
 -- line 1, `master=`: 1
 unfoldable pub masterLineNo : Entry → ℕ

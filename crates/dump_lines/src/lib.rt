@@ -1,30 +1,11 @@
 // One line of a dump: its form before its range. 01, "The dump player".
 ghost use mathlib.Core.Path.{_≡_};
-ghost use Rattle.dump_lines.specs.OneLine.{frameAt, framesLineNo, isFrame, lineEntryAt, masterLineNo, rateLineNo, wordsLineNo};
+ghost use Rattle.dump_lines.specs.OneLine.{frameAt, framesLineNo, isFrame, masterLineNo, rateLineNo, wordsLineNo};
+use text_entries::Entry;
 
 pub const MOST_WORDS: u64 = 4_096;
 
 pub const MOST_FRAMES: u64 = 1_900;
-
-// A line that is missing or not of its form is bad.
-pub struct Entry {
-    pub bad: bool,
-    pub value: u64,
-    pub next: usize,
-}
-
-// A number's line: its value, and the place of the next line.
-pub fn line_entry_at(key: &[u8], text: &[u8], at: usize) -> Entry
-    ensures { λ r. ⌜ r ≡ lineEntryAt (now (key .entry)) (now (text .entry)) at ⌝ }
-{
-    let number = text_fields::decimal(text_lines::value_at(key, text, at));
-    let line = text_lines::line_at(text, at);
-    Entry {
-        bad: number.bad,
-        value: number.value,
-        next: line.next,
-    }
-}
 
 pub fn master_line_no(e: Entry) -> u8
     ensures { λ r. ⌜ r ≡ masterLineNo e ⌝ }

@@ -8,7 +8,7 @@ use Rattle.text_lines.specs.Bytes.{bytes}
 use Rattle.text_lines.specs.Lines.{lineAt, valueAt}
 use Rattle.dump.specs.Checked.{verdictOf}
 use Rattle.dump_words.specs.Words.{linesOf}
-use Rattle.dump_output.specs.Printed.{refusalText, totalText}
+use Rattle.output_lines.specs.Lines.{refusalText, totalText}
 use Rattle.clocking_block.specs.Block.{afterWords, wordsOf}
 use Rattle.chip.specs.declared.Chip.{Chip}
 use Rattle.calls_making.specs.Making.{withClocks}

@@ -19,9 +19,12 @@ frameDue frames p = cond (ltb 0 (p .left)) false (ltb (p .frames) frames)
 abbrev pub frameBegins : ℕ → Progress → Progress
 frameBegins words p = record { begun = p .begun; frames = p .frames + 1; left = words }
 
--- As many of the words left as there is room for: a word's line has six bytes at most, and a frame 4,096 words.
+-- As many of the words left as there is room for: a word's line has six bytes at most. A frame has 4,096 words at most, and so has a piece.
+abbrev pub wordsIn : ℕ → ℕ → ℕ
+wordsIn room left = min (min left 4096) (room / 6)
+
 abbrev pub wordsFor : ℕ → Progress → ℕ
-wordsFor room p = min (min (p .left) 4096) (room / 6)
+wordsFor room p = wordsIn room (p .left)
 
 abbrev pub wordsGiven : ℕ → Progress → Progress
 wordsGiven n p = record { begun = p .begun; frames = p .frames; left = p .left - n }

@@ -1,7 +1,7 @@
 // How far the player's output has been handed out: what is next, and how much of it a buffer takes. 01, "The dump player".
 ghost use mathlib.Core.Path.{_≡_};
 ghost use Prim.Native.Nat.{_≤_, _<_, min};
-ghost use Rattle.dump_progress.specs.Progress.{firstLineGiven, frameBegins, frameDue, wordsFor, wordsGiven};
+ghost use Rattle.dump_progress.specs.Progress.{firstLineGiven, frameBegins, frameDue, wordsFor, wordsGiven, wordsIn};
 
 // Whether the first line has been handed out, how many frames have begun, and how many words of the last one are left.
 pub struct Progress {
@@ -40,11 +40,17 @@ pub fn frame_begins(p: Progress, words: u16) -> Progress
     }
 }
 
-// A word's line has six bytes at most.
 pub fn words_for(p: Progress, room: usize) -> usize
     ensures { λ r. ⌜ r ≡ wordsFor room p ⌝ }
 {
-    fewer(fewer(p.left as usize, 4096), room / 6)
+    words_in(p.left as u32, room)
+}
+
+// A word's line has six bytes at most.
+pub fn words_in(left: u32, room: usize) -> usize
+    ensures { λ r. ⌜ r ≡ wordsIn room left ⌝ }
+{
+    fewer(fewer(left as usize, 4096), room / 6)
 }
 
 pub fn words_given(p: Progress, n: usize) -> Progress

@@ -16,7 +16,7 @@ use Rattle.calls_making.specs.Making.{withClocks}
 use Rattle.dump.specs.Checked.{verdictOf}
 use Rattle.dump_frames.specs.Frame.{framePlayed}
 use Rattle.dump_words.specs.Words.{linesOf}
-use Rattle.dump_output.specs.Printed.{totalText}
+use Rattle.output_lines.specs.Lines.{totalText}
 use Rattle.dump_played.specs.Whole.{valueOf, chipBefore, frameWords, wordsIn, printed}
 use Rattle.dump_played.proofs.Whole.{chip-range, plays, leaves, fills, makes}
 use Rattle.laws_promises.specs.History.{Call, after, Ledger, emptyLedger, ledger}

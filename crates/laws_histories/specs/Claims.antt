@@ -23,7 +23,7 @@ use Rattle.text_fields.specs.Fields.{hexByte}
 use Rattle.dump_writes.specs.Writes.{registersWritten}
 use Rattle.dump_frames.specs.Frame.{frameLoaded, framePlayed, frameBuffer}
 use Rattle.dump_words.specs.Words.{linesOf}
-use Rattle.dump_output.specs.Printed.{totalText}
+use Rattle.output_lines.specs.Lines.{totalText}
 use Rattle.dump_played.specs.Whole.{chipBefore, wordsIn, printed}
 use Rattle.laws_promises.specs.History.{Call, reset, flush-pending-writes, block, answers, after, Ledger, emptyLedger, restarts, entered, ledger}
 use Rattle.laws_promises.specs.Demand.{N, T, Small, noiseOf, positionOf, FromZero, Plain, Served, Holds}

@@ -20,6 +20,7 @@ pub played : Played
 played =
     record {
       decimal = λ h x y. by-answer (h .𝓤);
+      leading-zero = λ h x y. by-answer (h .𝓤);
       all-hex = λ h x y. by-answer (h .𝓤);
       hex-byte = λ h x y. by-answer (h .𝓤);
       line-at = λ h x y. by-answer (h .𝓤);
@@ -27,7 +28,7 @@ played =
       reader = λ h x y. both (h .𝓤) (λ p q i. (readers (p .0) (p .1) (q .0) (q .1) i, x .1));
       next-line = λ h x y. both (h .𝓤) (λ p q i. (same (p .0) (q .0) i, (readers (p .1) (end (p .0) (p .2)) (q .1) (end (q .0) (q .2)) i, x .1 .1)));
       first-lines = λ h x y. by-answer (h .𝓤);
-      header-of = λ h x y. by-answer (h .𝓤);
+      clock-lines = λ h x y. by-answer (h .𝓤);
       frames-read = λ h x y. by-answer (h .𝓤);
       check = λ h x y. by-answer (h .𝓤);
       is-frame = λ h x y. by-answer (h .𝓤);
@@ -49,6 +50,7 @@ played =
       first-line-given = λ h x y. by-answer (h .𝓤);
       frame-due = λ h x y. by-answer (h .𝓤);
       frame-begins = λ h x y. by-answer (h .𝓤);
+      words-in = λ h x y. by-answer (h .𝓤);
       words-for = λ h x y. by-answer (h .𝓤);
       words-given = λ h x y. by-answer (h .𝓤);
       start = λ h x y. by-answer (h .𝓤);

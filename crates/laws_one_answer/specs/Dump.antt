@@ -1,6 +1,7 @@
 -- The calls of the dump player are settled, what they leave in lent buffers included (`Settled`). Assumes nothing.
 use denote.Ref.{now}
 use Rattle.text_fields.proofs.decimal
+use Rattle.text_fields.proofs.leading_zero as leading-zero
 use Rattle.text_fields.proofs.all_hex as all-hex
 use Rattle.text_fields.proofs.hex_byte as hex-byte
 use Rattle.text_lines.proofs.line_at as line-at
@@ -8,11 +9,11 @@ use Rattle.text_lines.proofs.value_at as value-at
 use Rattle.dump_reader.proofs.reader
 use Rattle.dump_reader.proofs.next_line as next-line
 use Rattle.dump_reader.proofs.first_lines as first-lines
-use Rattle.dump_header.proofs.header_of as header-of
+use Rattle.dump_clocks.proofs.clock_lines as clock-lines
 use Rattle.dump_body.proofs.frames_read as frames-read
 use Rattle.dump.proofs.check
 use Rattle.dump_lines.proofs.is_frame as is-frame
-use Rattle.dump_lines.proofs.line_entry_at as line-entry-at
+use Rattle.text_entries.proofs.line_entry_at as line-entry-at
 use Rattle.dump_lines.proofs.master_line_no as master-line-no
 use Rattle.dump_lines.proofs.rate_line_no as rate-line-no
 use Rattle.dump_lines.proofs.words_line_no as words-line-no
@@ -31,6 +32,7 @@ use Rattle.dump_progress.proofs.first_line_given as first-line-given
 use Rattle.dump_progress.proofs.frame_due as frame-due
 use Rattle.dump_progress.proofs.frame_begins as frame-begins
 use Rattle.dump_progress.proofs.words_for as words-for
+use Rattle.dump_progress.proofs.words_in as words-in
 use Rattle.dump_progress.proofs.words_given as words-given
 use Rattle.dump_player.proofs.start
 use Rattle.dump_player.proofs.next_piece as next-piece
@@ -39,6 +41,7 @@ use Rattle.laws_one_answer.specs.Settled.{Settles, SettlesAs}
 
 pub record Played : Type 2 where
   pub decimal : Settles decimal.ended (λ M. decimal.clauses)
+  pub leading-zero : Settles leading-zero.ended (λ M. leading-zero.clauses)
   pub all-hex : Settles all-hex.ended (λ M. all-hex.clauses)
   pub hex-byte : Settles hex-byte.ended (λ M. hex-byte.clauses)
   pub line-at : Settles line-at.ended (λ M. line-at.clauses)
@@ -47,7 +50,7 @@ pub record Played : Type 2 where
   pub reader : Settles reader.ended (λ M. reader.clauses)
   pub next-line : Settles next-line.ended (λ M. next-line.clauses)
   pub first-lines : Settles first-lines.ended (λ M. first-lines.clauses)
-  pub header-of : Settles header-of.ended (λ M. header-of.clauses)
+  pub clock-lines : Settles clock-lines.ended (λ M. clock-lines.clauses)
   pub frames-read : Settles frames-read.ended (λ M. frames-read.clauses)
   pub check : Settles check.ended (λ M. check.clauses)
   pub is-frame : Settles is-frame.ended (λ M. is-frame.clauses)
@@ -69,6 +72,7 @@ pub record Played : Type 2 where
   pub first-line-given : Settles first-line-given.ended (λ M. first-line-given.clauses)
   pub frame-due : Settles frame-due.ended (λ M. frame-due.clauses)
   pub frame-begins : Settles frame-begins.ended (λ M. frame-begins.clauses)
+  pub words-in : Settles words-in.ended (λ M. words-in.clauses)
   pub words-for : Settles words-for.ended (λ M. words-for.clauses)
   pub words-given : Settles words-given.ended (λ M. words-given.clauses)
   pub start : Settles start.ended (λ M. start.clauses)

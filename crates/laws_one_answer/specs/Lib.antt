@@ -5,4 +5,5 @@ pub mod Host
 pub mod Records
 pub mod Exported
 pub mod Dump
+pub mod Capture
 pub mod Parts

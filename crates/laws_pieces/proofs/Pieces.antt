@@ -14,7 +14,7 @@ pub record Gives {S : Type 0} (g : Giver S) (Stands : S → Type 0) (rest : S �
   pub last : (room : ℕ) (s : S) → least ≤ room → Stands s → g .piece room s ≡ [] → rest s ≡ []
   pub within : (room : ℕ) (s : S) → least ≤ room → Stands s → length (g .piece room s) ≤ room
 
-is-empty : (l : List ℕ) → length l ≤ 0 → l ≡ []
+pub is-empty : (l : List ℕ) → length l ≤ 0 → l ≡ []
 is-empty [] h = refl
 is-empty (x ∷ l) h = absurd (omega arith)
 

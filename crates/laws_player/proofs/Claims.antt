@@ -7,8 +7,9 @@ use borrow.Author.Tests.{lt-ltb}
 use lib.ListN.{length, take}
 use lib.Seq.{length-take-le, take-all}
 use Rattle.laws.proofs.Tests.{by-order}
+use Rattle.dump_clocks.specs.Clocks.{clockLines}
 use Rattle.dump.specs.Checked.{verdictOf}
-use Rattle.dump_output.specs.Printed.{refusalText}
+use Rattle.output_lines.specs.Lines.{refusalText}
 use Rattle.dump_input.specs.Enough.{enough}
 use Rattle.dump_player.specs.Player.{startOf}
 use Rattle.dump_played.specs.Whole.{printed}
@@ -18,11 +19,11 @@ use Rattle.laws_player.proofs.Standing.{Stands, restOf, start-stands, r
 use Rattle.laws_player.proofs.Piece.{piece-stands, rest-piece, piece-empty, piece-fits, piece-length}
 
 -- the player gives
-gives : (text : List ℕ) → Gives (giver text) (Stands text) (restOf text) 32
+pub gives : (text : List ℕ) → Gives (giver text) (Stands text) (restOf text) 32
 gives text = record { part = rest-piece text; stands = piece-stands text; last = piece-empty text; within = piece-fits text }
 
 too-long : (text : List ℕ) → 65536 < length text → printed text ≡ refusalText 11 0
-unfolding printed verdictOf
+unfolding printed verdictOf clockLines
 too-long text h = rw (lt-ltb 65536 (length text) h)
 
 same-beginning : (text : List ℕ) → printed (take enough text) ≡ printed text

@@ -10,7 +10,7 @@ use lib.ListN.{length}
 use Rattle.laws.proofs.Tests.{by-cond}
 use Rattle.clocking_block.specs.Block.{wordsOf}
 use Rattle.dump_output.specs.Printed.{firstLine}
-use Rattle.dump_output.proofs.Saying.{first-few}
+use Rattle.dump_output.proofs.Saying.{first-few, first-some}
 use Rattle.dump_words.specs.Words.{linesOf}
 use Rattle.dump_progress.specs.Progress.{wordsFor}
 use Rattle.dump_player.specs.declared.Player.{Player}
@@ -18,7 +18,7 @@ use Rattle.dump_player.specs.declared.Piece.{Piece}
 use Rattle.dump_player.specs.Player.{firstPiece, readied, rendered, wordLines, wordsPiece, bytesOf, pieceOf}
 use Rattle.laws_player.proofs.Verdicts.{Told, told}
 use Rattle.dump_words.proofs.Lining.{lines-join}
-use Rattle.laws_player.proofs.Words.{lines-few, no-lines, first-some}
+use Rattle.laws_player.proofs.Words.{lines-few, no-lines}
 use Rattle.laws_player.proofs.Standing.{wordsYet, restOf, Stands}
 use Rattle.laws_player.proofs.Ready.{ready}
 use Rattle.laws_player.proofs.Given.{rest-begun, given, lines-is, given-is, given-stands, given-words}

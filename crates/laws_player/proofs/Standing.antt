@@ -11,7 +11,8 @@ use Rattle.laws.proofs.Tests.{by-same}
 use Rattle.dump.specs.Checked.{verdictOf}
 use Rattle.chip.proofs.InRange.{InRange}
 use Rattle.clocking_block.specs.Block.{afterWords, wordsOf}
-use Rattle.dump_output.specs.Printed.{firstLine, refusalText}
+use Rattle.output_lines.specs.Lines.{refusalText}
+use Rattle.dump_output.specs.Printed.{firstLine}
 use Rattle.dump_words.specs.Words.{linesOf}
 use Rattle.dump_player.specs.declared.Player.{Player}
 use Rattle.dump_player.specs.Player.{startOf}

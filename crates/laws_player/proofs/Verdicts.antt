@@ -1,17 +1,19 @@
 -- What any verdict's numbers are, a refusal's too. Assumes nothing.
-use mathlib.Core.Bool.{Bool, cond}
 use mathlib.Core.List.{List}
 use mathlib.Core.Path.{_≡_, refl}
 use Prim.Native.Nat.{ℕ, zero, suc, _+_, _≤_, _<_}
 use native.Mathlib.Omega.{arith}
-use lib.Dec.{ltb, eqb}
+use lib.Dec.{ltb}
 use lib.ListN.{length}
 use Rattle.laws.proofs.Tests.{by-cond, by-lt}
 use Rattle.text_lines.specs.Bytes.{bytes}
 use Rattle.text_lines.specs.Lines.{lineAt}
-use Rattle.dump_lines.specs.OneLine.{lineEntryAt, masterLineNo, rateLineNo, wordsLineNo, framesLineNo, frameAt}
-use Rattle.dump_lines.specs.declared.Entry.{Entry}
-use Rattle.dump_lines.proofs.Ranges.{words-range, frames-range}
+use Rattle.text_entries.specs.Entries.{lineEntryAt}
+use Rattle.dump_lines.specs.OneLine.{wordsLineNo, framesLineNo, frameAt}
+use Rattle.dump_lines.proofs.Ranges.{words-range, frames-range, words-small, frames-small}
+use Rattle.dump_clocks.specs.Clocks.{clockLines}
+use Rattle.dump_clocks.specs.declared.ClockLines.{ClockLines}
+use Rattle.dump_clocks.proofs.Paced.{numbered}
 use Rattle.dump.specs.declared.Verdict.{Verdict}
 use Rattle.dump.specs.Checked.{refusedAt, acceptedWith, framesFrom, sized, verdictOf}
 
@@ -36,47 +38,24 @@ told-frames t good g (suc k) line at some h =
     by-cond Told (frameAt t at) _ _ (λ _. told-frames t good g k (line + 1) (lineAt t at .next) (omega arith) (omega arith))
     (λ _. told-refusal 8 line (omega arith) (omega arith) (omega arith))
 
--- a line's number is one of the table's
-either : (t : Bool) {a b : ℕ} → a < 256 → b < 256 → cond t a b < 256
-either t {a} {b} h k = by-cond (λ (n : ℕ). n < 256) t a b (λ _. h) (λ _. k)
-
-module _ (e : Entry) where
-  master-small : masterLineNo e < 256
-  unfolding masterLineNo
-  master-small = either (e .bad) (omega arith) (either (ltb 1073741823 (e .value)) (omega arith) (omega arith))
-
-  rate-small : (master : ℕ) → rateLineNo master e < 256
-  unfolding rateLineNo
-  rate-small master = either (e .bad) (omega arith) (either (eqb (e .value) 0) (omega arith) (either (ltb _ (e .value)) (omega arith) (omega arith)))
-
-  words-small : wordsLineNo e < 256
-  unfolding wordsLineNo
-  words-small = either (e .bad) (omega arith) (either (eqb (e .value) 0) (omega arith) (either (ltb 4096 (e .value)) (omega arith) (omega arith)))
-
-  frames-small : framesLineNo e < 256
-  unfolding framesLineNo
-  frames-small = either (e .bad) (omega arith) (either (ltb 1900 (e .value)) (omega arith) (omega arith))
-
-told-sized : (t : List ℕ) (master rate at : ℕ) → Told (sized t master rate at)
+told-sized : (t : List ℕ) (k : ClockLines) → Told (sized t k)
 unfolding sized
-told-sized t master rate at =
-    let three = lineEntryAt (bytes "words=") t at in
-    let four = lineEntryAt (bytes "frames=") t (three .next) in
+told-sized t k =
+    let three = lineEntryAt (bytes "words=") t (k .third) in
+    let four = lineEntryAt (bytes "frames=") t (k .fourth) in
     by-lt Told 0 (wordsLineNo three) (λ h. told-refusal (wordsLineNo three) 3 h (words-small three) (omega arith))
-    (λ h. by-lt Told 0 (framesLineNo four) (λ k. told-refusal (framesLineNo four) 4 k (frames-small four) (omega arith))
-    (λ k.
+    (λ h. by-lt Told 0 (framesLineNo four) (λ g. told-refusal (framesLineNo four) 4 g (frames-small four) (omega arith))
+    (λ g.
     let w = words-range three h in
-    let f = frames-range four k .1 in
-    told-frames t (acceptedWith master rate (three .value) (four .value) (four .next))
+    let f = frames-range four g .1 in
+    told-frames t (acceptedWith (k .master) (k .rate) (three .value) (four .value) (four .next))
     (record { no = omega arith; line = omega arith; words = w .1; frames = f; none = λ z. absurd (z refl); some = λ _. w .0 })
     (four .value) 5 (four .next) (omega arith) (omega (arith, f))))
 
 pub told : (t : List ℕ) → Told (verdictOf t)
 unfolding verdictOf
 told t =
-    let one = lineEntryAt (bytes "master=") t 0 in
-    let two = lineEntryAt (bytes "rate=") t (one .next) in
-    by-lt Told 65536 (length t) (λ _. told-refusal 11 0 (omega arith) (omega arith) (omega arith))
-    (λ _. by-lt Told 0 (masterLineNo one) (λ h. told-refusal (masterLineNo one) 1 h (master-small one) (omega arith))
-    (λ _. by-lt Told 0 (rateLineNo (one .value) two) (λ h. told-refusal (rateLineNo (one .value) two) 2 h (rate-small two (one .value)) (omega arith))
-    (λ _. told-sized t (one .value) (two .value) (two .next))))
+    let k = clockLines t in
+    let n = numbered t in
+    by-lt Told 0 (k .no) (λ h. told-refusal (k .no) (k .line) h (n .no) (omega (arith, n .line)))
+    (λ _. told-sized t k)

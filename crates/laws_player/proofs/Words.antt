@@ -1,22 +1,16 @@
 -- Words one after another, and their lines. Assumes nothing.
-use mathlib.Core.Bool.{cond}
-use mathlib.Core.List.{List, [], _∷_, _++_}
+use mathlib.Core.List.{[], _∷_, _++_}
 use mathlib.Core.Path.{_≡_, refl, ap}
 use Prim.Native.Nat.{ℕ, zero, suc, _+_, _*_, _≤_}
 use native.Mathlib.Omega.{arith}
-use lib.Dec.{eqb}
 use lib.ListN.{length, length-append}
-use Rattle.laws.proofs.Tests.{by-cond}
-use Rattle.text_lines.specs.Bytes.{bytes}
 use Rattle.text_put.specs.Text.{decimalText, numberText}
 use Rattle.text_put.proofs.Following.{number-few}
-use Rattle.dump.specs.declared.Verdict.{Verdict}
 use Rattle.chip.specs.declared.Chip.{Chip}
 use Rattle.chip.proofs.InRange.{InRange, core-runs}
 use Rattle.clocking_word.specs.Word.{wordOf}
 use Rattle.clocking_word.proofs.Stepping.{stepped}
 use Rattle.clocking_block.specs.Block.{afterOne, afterWords, wordsOf}
-use Rattle.dump_output.specs.Printed.{firstLine, totalText, refusalText}
 use Rattle.dump_words.specs.Words.{linesOf}
 use Rattle.laws_in_range.proofs.CallsInRange.{words-kept}
 
@@ -43,17 +37,3 @@ no-lines (suc n) c e =
     let long : length line ≡ length (decimalText w) + 1 = length-append (decimalText w) (10 ∷ []) in
     let z : length (line ++ linesOf (wordsOf n (afterOne c))) ≡ 0 = ap length e in
     absurd (omega (arith, length-append line (linesOf (wordsOf n (afterOne c))), long, z))
-
-pub first-some : (v : Verdict) → firstLine v ≡ [] → ⊥
-unfolding firstLine totalText refusalText
-first-some v =
-    by-cond (λ (l : List ℕ). l ≡ [] → ⊥) (eqb (v .no) 0) _ _
-    (λ _ e.
-    let number = numberText (v .words * v .frames) 10 in
-    let z : length (bytes "words=" ++ number) ≡ 0 = ap length e in
-    absurd (omega (arith, length-append (bytes "words=") number, z)))
-    (λ _ e.
-    let line = numberText (v .line) 10 in
-    let before = bytes "refused=" ++ numberText (v .no) 32 ++ bytes "line=" in
-    let z : length (before ++ line) ≡ 0 = ap length e in
-    absurd (omega (arith, length-append before line, length-append (bytes "refused=" ++ numberText (v .no) 32) (bytes "line="), z)))

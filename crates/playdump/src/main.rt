@@ -3,11 +3,10 @@ ghost use mathlib.Core.Bool.{false};
 ghost use mathlib.Core.Path.{_≡_};
 ghost use Prim.Native.Nat.{_≤_};
 ghost use lib.ListN.{length};
-ghost use Rattle.io.specs.Counts.{Counts};
 ghost use Rattle.dump_played.specs.Whole.{printed};
 ghost use Rattle.playdump.specs.Written.{NextBytes};
 
-// How many bytes were read or written, and whether the last call failed.
+// How many bytes were written, and whether the last write failed.
 struct Moved {
     bytes: usize,
     failed: bool,
@@ -15,7 +14,7 @@ struct Moved {
 
 fn main() {
     let mut input = dump_input::room();
-    let got = read_input(&mut input);
+    let got = standard_input::read_into(&mut input);
     if got.failed {
         os::fail(b"playdump: standard input");
         return;
@@ -24,26 +23,6 @@ fn main() {
     let written = play(&input[..n]);
     if written.failed {
         os::fail(b"playdump: standard output");
-    }
-}
-
-// Until the room is full, the input ends or a read fails.
-fn read_input(input: &mut [u8]) -> Moved
-    ensures { λ r. ⌜ Counts (r .bytes) (now (input .exit)) ⌝ }
-{
-    let mut bytes = 0;
-    while bytes < input.len() {
-        let got = libc::read(0, &mut input[bytes..]);
-        let more = io::count(got, &input[bytes..]);
-        if more == 0 {
-            let failed = got < 0;
-            return Moved { bytes, failed };
-        }
-        bytes += more;
-    }
-    Moved {
-        bytes,
-        failed: false,
     }
 }
 

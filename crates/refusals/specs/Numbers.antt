@@ -1,4 +1,4 @@
--- Numbers a call can answer. 01, the table of that name. Assumes nothing.
+-- Numbers a call can answer. 01, the table of that name, with 02's later numbers. Assumes nothing.
 use Prim.Native.Nat.{ℕ}
 
 -- accepted
@@ -33,11 +33,11 @@ blockTooLate = 6
 abbrev pub noSuchChannel : ℕ
 noSuchChannel = 7
 
--- dump line missing or not of its form
+-- dump line missing or not of its form; a capture's too (02, request 01), and so for 10 and 11
 abbrev pub lineNotOfForm : ℕ
 lineNotOfForm = 8
 
--- `words` or `frames` out of range
+-- `words` or `frames` out of range; of a capture `writes`, `words`, `at` or `port`
 abbrev pub sizeOutOfRange : ℕ
 sizeOutOfRange = 9
 
@@ -48,6 +48,10 @@ bytesAfterTheEnd = 10
 -- dump longer than 65,536 bytes
 abbrev pub dumpTooLong : ℕ
 dumpTooLong = 11
+
+-- capture: stamp lower than the one before (02, request 01)
+abbrev pub stampLower : ℕ
+stampLower = 12
 
 -- a handed-in chip record out of range
 abbrev pub outOfRange : ℕ

@@ -1,4 +1,4 @@
-// Numbers a call can answer. 01's table; specs/Numbers.antt has the same numbers for the definitions.
+// Numbers a call can answer. 01's table, with 02's later numbers; specs/Numbers.antt has the same numbers for the definitions.
 pub const ACCEPTED: u8 = 0;
 
 pub const MASTER_TOO_HIGH: u8 = 1;
@@ -22,5 +22,7 @@ pub const SIZE_OUT_OF_RANGE: u8 = 9;
 pub const BYTES_AFTER_THE_END: u8 = 10;
 
 pub const DUMP_TOO_LONG: u8 = 11;
+
+pub const STAMP_LOWER: u8 = 12;
 
 pub const OUT_OF_RANGE: u8 = 22;

@@ -1,4 +1,4 @@
--- A decimal read digit after digit: `decimal`'s invariant and its moves. Assumes nothing.
+-- A decimal read digit after digit: the invariant of `decimal` and `long_decimal`, and its moves. Assumes nothing.
 use mathlib.Core.Path.{_≡_, refl, _∙_}
 use mathlib.Core.List.{List, _∷_}
 use Prim.Native.Nat.{ℕ, suc, _+_, _-_, _*_, _^_, _≤_, _<_}
@@ -26,20 +26,20 @@ module _ (n d : ℕ) (ds : List ℕ) where
   unfolding digits
   digits-on l h = on-ge d _ _ _ _ l (on-ge _ d _ _ _ h refl)
 
--- what is left to read gives the whole, and what is read is below the power of ten of its digits, of which there are ten at most
-pub record Reading (s : List ℕ) (n i : ℕ) : Type 0 where
+-- what is left to read gives the whole, and what is read is below the power of ten of its digits, of which there are `most`
+pub record Reading (most : ℕ) (s : List ℕ) (n i : ℕ) : Type 0 where
   pub same : digits n (drop i s) ≡ digits 0 s
-  pub few : length s ≤ 10
+  pub few : length s ≤ most
   pub small : n < 10 ^ i
 
-pub reading-start : {s : List ℕ} → length s ≤ 10 → Reading s 0 0
+pub reading-start : {most : ℕ} {s : List ℕ} → length s ≤ most → Reading most s 0 0
 reading-start h = record { same = refl; few = h; small = omega arith }
 
--- ten digits fit: what is read before the last is below 10 ^ 9
-pub under : (i : ℕ) → i < 10 → 10 ^ i ≤ 10 ^ 9
-under i h = pow-le-pow-right (omega arith) {i = i} {j = 9} (omega arith)
+-- of fewer digits comes a lower power of ten
+pub under : (i k : ℕ) → i ≤ k → 10 ^ i ≤ 10 ^ k
+under i k h = pow-le-pow-right (omega arith) {i = i} {j = k} h
 
-module _ {s : List ℕ} {n i : ℕ} (m : Reading s n i) (h : i < length s) where
+module _ {most : ℕ} {s : List ℕ} {n i : ℕ} (m : Reading most s n i) (h : i < length s) where
   -- the digit at i, then the rest
   here : digits n (getD s i 0 ∷ drop (suc i) s) ≡ digits 0 s
   here = rw (drop-cons s i 0 h) at (m .same)
@@ -50,23 +50,24 @@ module _ {s : List ℕ} {n i : ℕ} (m : Reading s n i) (h : i < length s) where
   pub reading-high : 48 ≤ getD s i 0 → 57 < getD s i 0 → bad ≡ digits 0 s
   reading-high e d = digits-high n _ _ e d ∙ here
 
-  pub reading-on : 48 ≤ getD s i 0 → getD s i 0 ≤ 57 → Reading s (10 * n + (getD s i 0 - 48)) (i + 1)
-  reading-on e d =
-      record {
-        same = rw add-one (digits-on n _ _ e d ∙ here);
-        few = m .few;
-        small = rw (add-one, pow-suc) (omega (arith, m .small));
-      }
+  module _ (e : 48 ≤ getD s i 0) (d : getD s i 0 ≤ 57) where
+    pub read : digits (10 * n + (getD s i 0 - 48)) (drop (suc i) s) ≡ digits 0 s
+    read = digits-on n _ _ e d ∙ here
 
+    pub reading-on : Reading most s (10 * n + (getD s i 0 - 48)) (i + 1)
+    reading-on = record { same = rw add-one read; few = m .few; small = rw (add-one, pow-suc) (omega (arith, m .small)) }
+
+pub reading-all : {most : ℕ} {s : List ℕ} {n i : ℕ} → Reading most s n i → length s ≤ i → number n ≡ digits 0 s
+unfolding digits
+reading-all {most} {s} {n} {i} m h = rw (drop-of-length-le s {i = i} h) at (m .same)
+
+-- ten digits fit: what is read before the last is below 10 ^ 9
+module _ {s : List ℕ} {n i : ℕ} (m : Reading 10 s n i) (h : i < length s) where
   before-last : n < 10 ^ 9
-  before-last = omega (arith, under i (omega (arith, m .few)), m .small)
+  before-last = omega (arith, under i 9 (omega (arith, m .few)), m .small)
 
   pub reading-mul : Fits w64 (10 * n)
   reading-mul = omega (arith, before-last)
 
   pub reading-add : getD s i 0 ≤ 57 → Fits w64 (10 * n + (getD s i 0 - 48))
   reading-add d = omega (arith, before-last)
-
-pub reading-all : {s : List ℕ} {n i : ℕ} → Reading s n i → length s ≤ i → number n ≡ digits 0 s
-unfolding digits
-reading-all {s} {n} {i} m h = rw (drop-of-length-le s {i = i} h) at (m .same)

@@ -1,4 +1,4 @@
-// Decimals and hex digits in a text. Of a dump they have 01's limits, 10 digits and lower-case hex, and nothing else.
+// Decimals and hex digits in a text. Of dumps and captures they have the limits, 10 digits and lower-case hex, and nothing else.
 ghost use mathlib.Core.Path.{_≡_};
 ghost use mathlib.Core.Bool.{true};
 ghost use Prim.Native.Nat.{_+_, _*_, _<_};
@@ -70,7 +70,8 @@ pub fn hex_byte(s: &[u8], i: usize) -> u8
     16 * high + low
 }
 
-fn leading_zero(s: &[u8]) -> bool
+// A 0 with digits after it.
+pub fn leading_zero(s: &[u8]) -> bool
     ensures { λ r. ⌜ r ≡ needless (now (s .entry)) ⌝ }
 {
     if s.len() > 1 { s[0] == b'0' } else { false }

@@ -5,6 +5,12 @@ use borrow.Author.Needs.{needs}
 use Rattle.dump.proofs.sizes.Statement.{statement}
 use Rattle.dump.proofs.sizes.Tie as tie
 
+slice-aggregate-line-entry-at : tie.Need-slice-aggregate-line-entry-at
+slice-aggregate-line-entry-at c = search needs
+
+line-entry-at-requires : tie.Need-line-entry-at-requires
+line-entry-at-requires c κs = search needs
+
 words-line-no-requires : tie.Need-words-line-no-requires
 words-line-no-requires c κs = search needs
 
@@ -13,6 +19,12 @@ refused-requires c κs = search needs
 
 returns : tie.Need-returns
 returns c = search at-line-3
+
+slice-aggregate-line-entry-at-2 : tie.Need-slice-aggregate-line-entry-at-2
+slice-aggregate-line-entry-at-2 c = search needs
+
+line-entry-at-requires-2 : tie.Need-line-entry-at-requires-2
+line-entry-at-requires-2 c κs = search needs
 
 frames-line-no-requires : tie.Need-frames-line-no-requires
 frames-line-no-requires c κs = search needs
@@ -26,8 +38,8 @@ returns-2 c = search at-line-4
 cast-all-frames : tie.Need-cast-all-frames
 cast-all-frames c = search words-fits
 
-cast-t12 : tie.Need-cast-t12
-cast-t12 c = search frames-fits
+cast-t16 : tie.Need-cast-t16
+cast-t16 c = search frames-fits
 
 cast-all-frames-2 : tie.Need-cast-all-frames-2
 cast-all-frames-2 c = search frames-fits
@@ -42,14 +54,18 @@ pub sizes-spec : {M : Type 1} → statement M
 sizes-spec =
     tie.close
     (tie.spec
+    slice-aggregate-line-entry-at
+    line-entry-at-requires
     words-line-no-requires
     refused-requires
     returns
+    slice-aggregate-line-entry-at-2
+    line-entry-at-requires-2
     frames-line-no-requires
     refused-requires-2
     returns-2
     cast-all-frames
-    cast-t12
+    cast-t16
     cast-all-frames-2
     all-frames-requires
     returns-3)

@@ -1,37 +1,53 @@
--- `dump_output::put_first_line` meets its contract: the line fits 32 bytes (`Saying`). Assumes nothing.
-use mathlib.Core.Path.{sym}
+-- `dump_output::put_first_line` meets its contract: a total or a refusal, as the verdict says. Assumes nothing.
+use Prim.Native.Nat.{_*_}
 use native.Mathlib.Omega.{arith}
 use borrow.Author.Needs.{needs}
-use lib.Seq.{length-take-le}
-use Rattle.dump_output.proofs.Saying.{text-room, text-is}
+use Rattle.output_lines.specs.Lines.{refusalText, totalText}
+use Rattle.output_lines.proofs.Saying.{put-accepted, put-refused}
+use Rattle.dump_output.specs.Printed.{firstLine}
+use Rattle.dump_output.proofs.Saying.{total-fits}
 use Rattle.dump_output.proofs.put_first_line.Statement.{statement}
 use Rattle.dump_output.proofs.put_first_line.Tie as tie
 
-first-line-requires : tie.Need-first-line-requires
-first-line-requires c κs = search needs
+cast-put-total : tie.Need-cast-put-total
+cast-put-total c = search needs
 
-array-share-prefix-bytes : tie.Need-array-share-prefix-bytes
-array-share-prefix-bytes c = text-room (c .before .before .before .before .args .verdict) (omega arith) (omega arith) (omega arith) (omega arith) (c .before .before .first-line .ensures)
+cast-put-total-2 : tie.Need-cast-put-total-2
+cast-put-total-2 c = search needs
 
-slice-aggregate-put-bytes : tie.Need-slice-aggregate-put-bytes
-slice-aggregate-put-bytes c = sym (length-take-le _ _ (text-room (c .before .before .before .before .before .args .verdict) (omega arith) (omega arith) (omega arith) (omega arith) (c .before .before .before .first-line .ensures)))
+mul-put-total : tie.Need-mul-put-total
+mul-put-total c = let v = c .before .before .before .before .before .before .args .verdict in let h = total-fits (v .words) (v .frames) (omega arith) (omega arith) in omega (arith, h)
 
-put-bytes-requires : tie.Need-put-bytes-requires
-put-bytes-requires c κs = search needs
+put-total-requires : tie.Need-put-total-requires
+put-total-requires c κs = search needs
 
 same-length : tie.Need-same-length
 same-length c = search needs
 
 returns : tie.Need-returns
-returns c = let v = c .before .before .before .before .before .before .before .before .args .verdict in let e = text-is v (omega arith) (omega arith) (omega arith) (omega arith) (c .before .before .before .before .before .before .first-line .ensures) in (rw e at (c .before .before .put-bytes .ensures .0), rw e at (c .before .before .put-bytes .ensures .1))
+unfolding firstLine
+returns c = let v = c .before .before .before .before .before .before .before .before .before .args .verdict in put-accepted _ (v .no) (totalText (v .words * v .frames)) _ (c .before .before .before .before .before .before .if1 .taken) (c .before .before .put-total .ensures)
+
+put-refusal-requires : tie.Need-put-refusal-requires
+put-refusal-requires c κs = search needs
+
+same-length-2 : tie.Need-same-length-2
+same-length-2 c = search needs
+
+returns-2 : tie.Need-returns-2
+unfolding firstLine
+returns-2 c = let v = c .before .before .before .before .before .before .before .args .verdict in put-refused _ (v .no) _ (refusalText (v .no) (v .line)) (c .before .before .before .before .if1 .left) (c .before .before .put-refusal .ensures)
 
 pub put-first-line-spec : {M : Type 1} → statement M
 put-first-line-spec =
     tie.close
     (tie.spec
-    first-line-requires
-    array-share-prefix-bytes
-    slice-aggregate-put-bytes
-    put-bytes-requires
+    cast-put-total
+    cast-put-total-2
+    mul-put-total
+    put-total-requires
     same-length
-    returns)
+    returns
+    put-refusal-requires
+    same-length-2
+    returns-2)

@@ -1,5 +1,5 @@
--- `check_all` is safe and ends: each text leads to a later place. Assumes nothing.
-use Prim.Native.Nat.{_-_}
+-- `check_all` is safe and ends: each turn is one less. Assumes nothing.
+use mathlib.Core.Path.{_≡_, refl}
 use native.Mathlib.Omega.{arith}
 use borrow.Author.Needs.{needs}
 use lib.ListN.{length}
@@ -7,28 +7,34 @@ use Rattle.test_dumps.proofs.check_all.Statement.{statement}
 use Rattle.test_dumps.proofs.check_all.Tie as tie
 
 abbrev Inv-loop : tie.InvT-loop
-Inv-loop input at₀ at = Unit {0}
+Inv-loop text₀ turns₀ text turns = length text ≡ length text₀
 
 abbrev μ-loop : tie.MeasureT-loop
-μ-loop input at₀ at = length input - at
+μ-loop text₀ turns₀ text turns = turns
 
 loop-holds : tie.Need-loop-holds Inv-loop μ-loop
-loop-holds c = tt
+loop-holds c = refl
 
-check-one-requires : tie.Need-check-one-requires Inv-loop μ-loop
-check-one-requires c κs = search needs
+check-next-requires : tie.Need-check-next-requires Inv-loop μ-loop
+check-next-requires c κs = search needs
 
-bad-requires : tie.Need-bad-requires Inv-loop μ-loop
-bad-requires c κs = search needs
+same-length : tie.Need-same-length Inv-loop μ-loop
+same-length c = search needs
 
 returns : tie.Need-returns Inv-loop μ-loop
 returns c = search needs
+
+sub-turns : tie.Need-sub-turns Inv-loop μ-loop
+sub-turns c = search needs
 
 loop-less : tie.Need-loop-less Inv-loop μ-loop
 loop-less c = omega arith
 
 loop-again : tie.Need-loop-again Inv-loop μ-loop
-loop-again c = tt
+loop-again c = search needs
+
+same-length-2 : tie.Need-same-length-2 Inv-loop μ-loop
+same-length-2 c = search needs
 
 returns-2 : tie.Need-returns-2 Inv-loop μ-loop
 returns-2 c = search needs
@@ -40,9 +46,11 @@ check-all-spec =
     Inv-loop
     μ-loop
     loop-holds
-    check-one-requires
-    bad-requires
+    check-next-requires
+    same-length
     returns
+    sub-turns
     loop-less
     loop-again
+    same-length-2
     returns-2)

@@ -12,7 +12,7 @@ use Rattle.text_fields.proofs.decimal.Statement.{statement}
 use Rattle.text_fields.proofs.decimal.Tie as tie
 
 abbrev Inv-loop : tie.InvT-loop
-Inv-loop s bad n₀ i₀ n i = Reading s n i
+Inv-loop s bad n₀ i₀ n i = Reading 10 s n i
 
 abbrev μ-loop : tie.MeasureT-loop
 μ-loop s bad n₀ i₀ n i = length s - i

@@ -1,0 +1,4 @@
+pub mod Header
+pub mod Accepted
+pub mod Told
+pub mod Claims

@@ -1,0 +1,4 @@
+pub mod Walking
+pub mod Next
+pub mod Listed
+pub mod Free

@@ -1,0 +1,2 @@
+pub mod Giving
+pub mod Counting

@@ -1,0 +1,3 @@
+pub mod ThreeLines
+pub mod Ranged
+pub mod Listed
