@@ -13,11 +13,15 @@ pub mod mixer;
 pub mod tables;
 
 pub mod call;
+pub mod capture;
+pub mod capture_cases;
 pub mod dump;
 pub mod lines;
+pub mod random;
 pub mod range;
 pub mod refusal;
 pub mod ring;
 pub mod script;
 pub mod set;
 pub mod shape_cases;
+pub mod text;

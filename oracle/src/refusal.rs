@@ -1,4 +1,4 @@
-//! 01, "Numbers a call can answer". `range.rs` has the test of 22.
+//! 01, "Numbers a call can answer", with 02's later numbers. `range.rs` has the test of 22.
 
 pub const ACCEPTED: u8 = 0;
 pub const MASTER_TOO_HIGH: u8 = 1;
@@ -12,6 +12,7 @@ pub const BAD_FORM: u8 = 8;
 pub const OUT_OF_RANGE: u8 = 9;
 pub const BYTES_LEFT: u8 = 10;
 pub const DUMP_TOO_LONG: u8 = 11;
+pub const STAMP_LOWER: u8 = 12;
 pub const BAD_RECORD: u8 = 22;
 
 pub const MASTER_MAX: u32 = 1_073_741_823;
@@ -20,7 +21,10 @@ pub const BLOCK_MAX: usize = 65_536;
 pub const CHANNELS: u64 = 3;
 pub const WORDS_MAX: u64 = 4_096;
 pub const FRAMES_MAX: u64 = 1_900;
-pub const DUMP_MAX: usize = 65_536;
+pub const TEXT_MAX: usize = 65_536;
+pub const WRITES_MAX: u64 = 1_500;
+pub const CAPTURE_WORDS_MAX: u64 = 65_536;
+pub const PORT_MAX: u64 = 3;
 
 /// What making a chip with these clocks answers. The order is 1, 2, 3.
 pub fn of_clocks(master: u32, rate: u32) -> u8 {

@@ -1,13 +1,13 @@
 //! Reads a dump on standard input and prints its words, or why it is refused.
 
 use oracle::dump::play;
-use oracle::refusal::DUMP_MAX;
+use oracle::refusal::TEXT_MAX;
 use std::io::{BufWriter, Read, Write, stdin, stdout};
 
 fn main() -> std::io::Result<()> {
     let mut text = Vec::new();
     // One byte past the limit is enough to know 11.
-    stdin().lock().take(DUMP_MAX as u64 + 1).read_to_end(&mut text)?;
+    stdin().lock().take(TEXT_MAX as u64 + 1).read_to_end(&mut text)?;
     let mut out = BufWriter::with_capacity(1 << 16, stdout().lock());
     play(&text, &mut out)?;
     out.flush()

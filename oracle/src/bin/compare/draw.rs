@@ -1,8 +1,8 @@
 //! Draws scripts. Each call is run on the oracle as it is drawn, so that later ones can aim at the state reached.
 
 use crate::moods::{Act, Act::*, MOODS, weighed};
-use crate::random::Random;
 use crate::tally::Tally;
+use oracle::random::Random;
 use oracle::refusal::MASTER_MAX;
 use oracle::script::Bench;
 

@@ -1,12 +1,42 @@
 //! Draws dumps, good and damaged.
 
-use crate::random::Random;
-use oracle::dump::{Dump, read};
-use oracle::refusal::{DUMP_MAX, FRAMES_MAX, WORDS_MAX};
+use crate::damage;
+use crate::players::{Fails, Kind, lines_of};
+use crate::shrink::shortest;
+use oracle::dump::{Dump, play, read};
+use oracle::random::Random;
+use oracle::refusal::{FRAMES_MAX, WORDS_MAX};
+use oracle::shape_cases;
 
 /// Words that one dump may ask for, and ticks.
 const MOST_WORDS: u64 = 20_000;
 const MOST_TICKS: u64 = 1_000_000;
+
+pub const DUMPS: Kind = Kind { name: "dump", draw: dump, play: played, fewer: fewer_frames, cases };
+
+fn played(text: &[u8]) -> Vec<u8> {
+    let mut out = Vec::new();
+    play(text, &mut out).unwrap();
+    out
+}
+
+fn cases() -> Vec<(String, Vec<u8>)> {
+    shape_cases::all().into_iter().map(|case| (case.name.clone(), case.text().into_bytes())).collect()
+}
+
+/// A dump that is played without the frames that are not needed: `frames=` says how many are left.
+fn fewer_frames(dump: &[u8], fails: Fails) -> Vec<u8> {
+    if read(dump).is_err() {
+        return dump.to_vec();
+    }
+    let mut head = lines_of(dump);
+    let frames = head.split_off(4);
+    let of = |frames: &[Vec<u8>]| {
+        let count = format!("frames={}\n", frames.len()).into_bytes();
+        [head[..3].concat(), count, frames.concat()].concat()
+    };
+    of(&shortest(&frames, &mut |frames| fails(&of(frames))))
+}
 
 pub fn dump(random: &mut Random) -> Vec<u8> {
     loop {
@@ -35,7 +65,7 @@ fn drawn(random: &mut Random) -> Vec<u8> {
     let mut text = lines.concat().into_bytes();
     for _ in 0..damages {
         if random.one_in(2) {
-            damage_text(random, &mut text);
+            damage::text(random, &mut text, b"regs=0000000000000000000000000000\n");
         }
     }
     text
@@ -43,17 +73,7 @@ fn drawn(random: &mut Random) -> Vec<u8> {
 
 /// Lines with their LF, of a dump that passes.
 fn good(random: &mut Random) -> Vec<String> {
-    let (master, rate) = match random.below(6) {
-        0 => (2_000_000, 44_100),
-        1 => (2_000_000, 250_000),
-        2 => (8, 1),
-        3 => (1_073_741_823, 134_217_727),
-        _ => {
-            let master = random.spread(1_073_741_823).max(8);
-            let ticks = random.spread(300);
-            (master, (master / 8 / ticks).max(1))
-        }
-    };
+    let (master, rate) = clocks(random);
     let (words, frames) = match random.below(24) {
         0 => (1, FRAMES_MAX),
         1 => (WORDS_MAX, random.within(1, 3)),
@@ -72,6 +92,21 @@ fn good(random: &mut Random) -> Vec<String> {
         lines.push(frame(random));
     }
     lines
+}
+
+/// Clocks that pass, of up to some hundred ticks to a word.
+pub fn clocks(random: &mut Random) -> (u64, u64) {
+    match random.below(6) {
+        0 => (2_000_000, 44_100),
+        1 => (2_000_000, 250_000),
+        2 => (8, 1),
+        3 => (1_073_741_823, 134_217_727),
+        _ => {
+            let master = random.spread(1_073_741_823).max(8);
+            let ticks = random.spread(300);
+            (master, (master / 8 / ticks).max(1))
+        }
+    }
 }
 
 fn frame(random: &mut Random) -> String {
@@ -108,26 +143,17 @@ fn shape(byte: u8) -> u8 {
 fn damage_line(random: &mut Random, lines: &mut Vec<String>) {
     let place = random.below(lines.len() as u64) as usize;
     let head = random.below(lines.len().min(4) as u64) as usize;
-    let key = lines[head].split('=').next().unwrap().to_string();
     match random.below(16) {
-        0 => drop(lines.remove(place)),
-        1 => lines.insert(place, lines[place].clone()),
-        2 => lines.swap(place, head),
-        3 => lines[place] = lines[place].replace('\n', "\r\n"),
-        4 => lines[place] = lines[place].to_uppercase(),
+        way @ 0..=4 => damage::line(way, lines, place, head),
         5 => lines[place] = lines[place].to_uppercase().replace("REGS", "regs"),
-        6 => lines[place] = lines[place].replacen('=', "", 1),
-        7 => lines[place] = lines[place].replacen('=', "=0", 1),
-        8 => lines[head] = format!("{key}=\n"),
-        _ => lines[head] = format!("{key}={}\n", limit(random, &key)),
+        way @ 6..=7 => damage::line(way - 1, lines, place, head),
+        8 => damage::line(7, lines, head, place),
+        _ => {
+            let key = damage::key(&lines[head]);
+            lines[head] = format!("{key}={}\n", limit(random, key));
+        }
     }
 }
-
-#[rustfmt::skip]
-const NUMBERS: [&str; 17] = [
-    "0", "1", "00", "01", "-1", "+1", " 1", "1 ", "0x1", "1e1", "4294967295", "4294967296", "4294967297",
-    "9999999999", "10000000000", "00000000001", "18446744073709551617",
-];
 
 /// A number on one side or the other of a limit, in good form or in bad.
 fn limit(random: &mut Random, key: &str) -> &'static str {
@@ -137,23 +163,5 @@ fn limit(random: &mut Random, key: &str) -> &'static str {
         "words" => &["4096", "4097", "4095", "0004"],
         _ => &["1900", "1901", "2", "3"],
     };
-    if random.one_in(2) { random.pick(&NUMBERS) } else { random.pick(its_own) }
-}
-
-fn damage_text(random: &mut Random, text: &mut Vec<u8>) {
-    let place = random.within(0, text.len() as u64) as usize;
-    let byte = random.byte();
-    let byte = random.pick(&[byte, b'\n', b'\r', 0, b'0', b'a', b'A', b'=', b' ', b'g', b'/', b':', b'`']);
-    match random.below(10) {
-        0 => text.truncate(place),
-        1 => drop(text.pop()),
-        2 => text.push(byte),
-        3 => text.extend_from_slice(b"regs=0000000000000000000000000000\n"),
-        4 => text.insert(place, byte),
-        5 | 6 if place < text.len() => text[place] = byte,
-        7 if place < text.len() => drop(text.remove(place)),
-        8 => text.resize(DUMP_MAX + random.below(2) as usize, byte),
-        9 => text.clear(),
-        _ => text.push(b'\n'),
-    }
+    damage::number(random, its_own)
 }

@@ -1,6 +1,8 @@
-//! Draws scripts and dumps, runs the oracle on them here and another program beside it, and compares every line.
+//! Draws scripts, dumps and captures, runs the oracle on them here and other programs beside it, and compares every line.
 
 mod acts;
+mod captures;
+mod damage;
 mod draw;
 mod dumps;
 mod fields;
@@ -8,43 +10,59 @@ mod moods;
 mod other;
 mod parting;
 mod players;
-mod random;
 mod scripts;
 mod shrink;
+mod stamped;
 mod tally;
 
-use oracle::shape_cases;
+use captures::CAPTURES;
+use dumps::DUMPS;
+use oracle::random::Random;
 use players::Players;
-use random::Random;
 use scripts::{Batches, Scripts};
 use std::time::Duration;
 
 /// Calls handed to one process of the other side, at least.
 const BATCH: u64 = 2_000;
-/// One dump is drawn for so many calls.
-const CALLS_A_DUMP: u64 = 100;
+/// One dump and one capture are drawn for so many calls.
+const CALLS_A_TEXT: u64 = 100;
 /// How long a shrinking may take.
 const SHRINKING: Duration = Duration::from_secs(10);
 
-const USAGE: &str = "usage: compare COUNT SEED [--replay PATH] [--player PATH] [--first] [--script] [--count]
+const USAGE: &str =
+    "usage: compare COUNT SEED [--replay PATH] [--player PATH] [--capture-player PATH] [--first] [--script] [--count]
 
-Draws scripts of COUNT calls in all, and a dump for each 100 calls, and compares the oracle on these
-and, last, on the cases of 02's request 02 with
---replay PATH   a program that reads a script, and
---player PATH   a program that reads a dump.
-With neither, the oracle's own programs stand in, which tests only the comparing.
+Draws scripts of COUNT calls in all, and a dump and a capture for each 100 calls, and compares the oracle on these
+and, last, on the cases of 02's requests with
+--replay PATH           a program that reads a script,
+--player PATH           a program that reads a dump, and
+--capture-player PATH   a program that reads a capture.
+With none, the oracle's own programs stand in, which tests only the comparing.
 --first         end at the first difference
 --script        print the scripts that would be run, and run nothing
 --count         print what would be drawn, counted, and run the oracle alone";
 
+#[derive(Default)]
 struct Options {
     count: u64,
     seed: u64,
     replay: Option<String>,
     player: Option<String>,
+    capture_player: Option<String>,
     first: bool,
     script: bool,
     counting: bool,
+}
+
+impl Options {
+    // Apart, so that the same scripts are drawn whether dumps and captures are or not.
+    fn for_dumps(&self) -> Random {
+        Random(!self.seed)
+    }
+
+    fn for_captures(&self) -> Random {
+        Random(!self.seed.rotate_left(32))
+    }
 }
 
 fn main() {
@@ -61,22 +79,23 @@ fn main() {
 
 fn options() -> Option<Options> {
     let mut words = std::env::args().skip(1);
-    let count = words.next()?.parse().ok()?;
-    let seed = words.next()?.parse().ok()?;
-    let mut options = Options { count, seed, replay: None, player: None, first: false, script: false, counting: false };
+    let mut options =
+        Options { count: words.next()?.parse().ok()?, seed: words.next()?.parse().ok()?, ..Options::default() };
     while let Some(word) = words.next() {
         match word.as_str() {
             "--replay" => options.replay = Some(words.next()?),
             "--player" => options.player = Some(words.next()?),
+            "--capture-player" => options.capture_player = Some(words.next()?),
             "--first" => options.first = true,
             "--script" => options.script = true,
             "--count" => options.counting = true,
             _ => return None,
         }
     }
-    if options.replay.is_none() && options.player.is_none() {
+    if options.replay.is_none() && options.player.is_none() && options.capture_player.is_none() {
         options.replay = Some(beside("oracle"));
         options.player = Some(beside("player"));
+        options.capture_player = Some(beside("capture_player"));
     }
     Some(options)
 }
@@ -98,21 +117,24 @@ fn print_scripts(options: &Options) {
 fn print_counts(options: &Options) {
     let mut batches = Batches::new(options);
     while batches.next().is_some() {}
-    let mut for_dumps = Random(!options.seed);
-    for _ in 0..options.count.div_ceil(CALLS_A_DUMP) {
+    let (mut for_dumps, mut for_captures) = (options.for_dumps(), options.for_captures());
+    for _ in 0..options.count.div_ceil(CALLS_A_TEXT) {
         batches.tally.dump(&dumps::dump(&mut for_dumps));
+        batches.tally.capture(&captures::capture(&mut for_captures));
     }
     batches.tally.print();
 }
 
 fn compare(options: &Options) {
-    // Apart, so that the same scripts are drawn whether dumps are or not.
     let mut batches = Batches::new(options);
-    let mut for_dumps = Random(!options.seed);
     let mut scripts = Scripts::default();
-    let mut players = Players::default();
+    let mut players = Vec::new();
+    players.extend(options.player.as_ref().map(|path| Players::new(DUMPS, path, options.for_dumps())));
+    players.extend(options.capture_player.as_ref().map(|path| Players::new(CAPTURES, path, options.for_captures())));
+    let differ = |scripts: &Scripts, players: &[Players]| {
+        scripts.differences > 0 || players.iter().any(|players| players.differences > 0)
+    };
     let mut asked = 0;
-    let differ = |scripts: &Scripts, players: &Players| scripts.differences + players.differences > 0;
     while asked < options.count && !(options.first && differ(&scripts, &players)) {
         let share = BATCH.min(options.count - asked);
         asked += share;
@@ -121,37 +143,23 @@ fn compare(options: &Options) {
                 scripts.compare(path, &batch, options.first);
             }
         }
-        if let Some(path) = &options.player {
-            for _ in 0..share.div_ceil(CALLS_A_DUMP) {
+        for place in 0..players.len() {
+            for _ in 0..share.div_ceil(CALLS_A_TEXT) {
                 if !(options.first && differ(&scripts, &players)) {
-                    players.compare(path, &mut for_dumps);
+                    players[place].compare();
                 }
             }
         }
     }
-    // Last, so that it is seen whether drawn dumps show a fault.
-    if let Some(path) = &options.player {
-        for case in shape_cases::all() {
-            if !(options.first && differ(&scripts, &players)) {
-                players.compare_case(path, &case);
-            }
+    // Last, so that it is seen whether drawn texts show a fault.
+    for place in 0..players.len() {
+        if !(options.first && differ(&scripts, &players)) {
+            players[place].compare_cases(options.first);
         }
     }
-    report(options, &scripts, &players);
-    std::process::exit(differ(&scripts, &players) as i32);
-}
-
-fn report(options: &Options, scripts: &Scripts, players: &Players) {
     if let Some(path) = &options.replay {
-        println!(
-            "calls={} words={} ticks={} scripts={} differences={} ({path})",
-            scripts.calls, scripts.words, scripts.ticks, scripts.scripts, scripts.differences
-        );
+        scripts.report(path);
     }
-    if let Some(path) = &options.player {
-        println!(
-            "dumps={} refused={} words={} cases={} differences={} ({path})",
-            players.dumps, players.refused, players.words, players.cases, players.differences
-        );
-    }
+    players.iter().for_each(Players::report);
+    std::process::exit(differ(&scripts, &players) as i32);
 }

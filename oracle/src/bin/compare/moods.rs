@@ -1,6 +1,6 @@
 //! What scripts are about.
 
-use crate::random::Random;
+use oracle::random::Random;
 
 #[derive(Clone, Copy)]
 pub enum Act {

@@ -3,10 +3,10 @@
 use crate::draw::{self, Drawn};
 use crate::other;
 use crate::parting::{Parting, parting};
-use crate::random::Random;
 use crate::shrink::{shortest, smallest};
 use crate::tally::Tally;
 use crate::{BATCH, Options, SHRINKING};
+use oracle::random::Random;
 use oracle::refusal::{self, ACCEPTED};
 use oracle::script::Bench;
 use std::time::Instant;
@@ -56,6 +56,13 @@ impl Batches {
 }
 
 impl Scripts {
+    pub fn report(&self, path: &str) {
+        println!(
+            "calls={} words={} ticks={} scripts={} differences={} ({path})",
+            self.calls, self.words, self.ticks, self.scripts, self.differences
+        );
+    }
+
     pub fn compare(&mut self, path: &str, batch: &[Drawn], first: bool) {
         let input: String = batch.iter().map(|drawn| drawn.script.as_str()).collect();
         let output = other::run(path, input.into_bytes());

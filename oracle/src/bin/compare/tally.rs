@@ -1,10 +1,12 @@
 //! What was drawn, counted: `--count` prints it.
 
 use oracle::call::{self, Call};
+use oracle::capture;
 use oracle::dump::{play, read};
-use oracle::refusal::{ACCEPTED, NO_SUCH_CHANNEL, QUEUE_MAX};
+use oracle::refusal::{ACCEPTED, NO_SUCH_CHANNEL, QUEUE_FULL, QUEUE_MAX};
 use oracle::script::Bench;
 use oracle::set::Field;
+use oracle::text::Refused;
 use std::collections::{BTreeMap, BTreeSet};
 
 /// Ticks to a word, by their upper ends.
@@ -15,6 +17,7 @@ pub struct Tally {
     counts: BTreeMap<&'static str, u64>,
     seen: BTreeMap<&'static str, BTreeSet<u64>>,
     answers: BTreeMap<u8, u64>,
+    captures_refused: BTreeMap<u8, u64>,
     ticks: [u64; TICKS.len()],
     counter: u32,
     /// The ring was moved by a `set` since the chip was made or reset.
@@ -152,6 +155,47 @@ impl Tally {
         }
     }
 
+    pub fn capture(&mut self, text: &[u8]) {
+        self.count("captures");
+        let capture = match capture::read(text) {
+            Ok(capture) => capture,
+            Err(Refused(number, _)) => return *self.captures_refused.entry(number).or_default() += 1,
+        };
+        self.count("captures that are played");
+        let cycles = 4 * capture.master as u64 / capture.rate as u64;
+        let last = cycles * capture.words as u64;
+        let mut due = BTreeMap::new();
+        for write in &capture.writes {
+            self.count("writes of captures");
+            match write.at {
+                at if at > last => self.count("writes never reached"),
+                at if at > 0 && at % cycles == 0 => self.count("stamps at a word's end"),
+                at if at % cycles == cycles - 1 => self.count("stamps one before a word's end"),
+                at if at > cycles && at % cycles == 1 => self.count("stamps one after a word's end"),
+                _ => {}
+            }
+            if write.port & 2 != 0 && write.at <= last {
+                *due.entry(write.at.div_ceil(cycles).max(1)).or_insert(0) += 1;
+            }
+        }
+        if capture.writes.iter().all(|write| write.at > last) && !capture.writes.is_empty() {
+            self.count("captures whose writes are all late");
+        }
+        for (word, count) in &due {
+            match count {
+                255 => self.count("words with 255 data writes due"),
+                256 if due.get(&(word + 1)) == Some(&256) => self.count("words with 256 due, and 256 in the next"),
+                256 => self.count("words with 256 due"),
+                257 => self.count("words with 257 due"),
+                258.. => self.count("words with more due"),
+                _ => {}
+            }
+        }
+        if due.values().any(|count| *count > QUEUE_MAX) {
+            *self.captures_refused.entry(QUEUE_FULL).or_default() += 1;
+        }
+    }
+
     pub fn print(&self) {
         for (what, seen) in &self.seen {
             println!("{:>9} of 256 {what}", seen.len());
@@ -168,6 +212,9 @@ impl Tally {
         }
         for (number, count) in &self.answers {
             println!("{count:>9} calls that answered {number}");
+        }
+        for (number, count) in &self.captures_refused {
+            println!("{count:>9} captures refused by {number}");
         }
     }
 }

@@ -5,7 +5,7 @@ use crate::{Text, text};
 
 /// Numbers about 2^16, 2^32, 2^64 and about the longest decimal: cut to fewer bits some would pass.
 #[rustfmt::skip]
-const WIDE: [&str; 15] = [
+pub const WIDE: [&str; 15] = [
     "65535", "65536", "65537", "2147483648", "4294967295", "4294967296", "4294967297", "4294967304", "9999999999",
     "10000000000", "10000000001", "18446744073709551616", "18446744073709551617", "0000000001", "00000000001",
 ];
@@ -52,7 +52,7 @@ pub fn not_digits() -> Vec<Text> {
 }
 
 /// `before`, and the lines after it with one byte of a value replaced: each byte of each value.
-fn replaced(before: &str, lines: &str, bytes: &[u8]) -> Vec<Text> {
+pub fn replaced(before: &str, lines: &str, bytes: &[u8]) -> Vec<Text> {
     let mut all = Vec::new();
     let whole = [before, lines].concat().into_bytes();
     let mut in_value = false;

@@ -27,7 +27,7 @@ pub fn texts() -> Vec<Text> {
 }
 
 /// What stands in the line's place.
-fn damaged(line: &str) -> Vec<(&'static str, String)> {
+pub fn damaged(line: &str) -> Vec<(&'static str, String)> {
     let line = line.trim_end();
     let (key, value) = line.split_once('=').unwrap();
     let (upper, short) = (key.to_uppercase(), &key[..key.len() - 1]);
@@ -75,7 +75,7 @@ fn damaged(line: &str) -> Vec<(&'static str, String)> {
 }
 
 /// What the text ends with, where it ends at the line.
-fn cut(line: &str) -> Vec<(&'static str, &str)> {
+pub fn cut(line: &str) -> Vec<(&'static str, &str)> {
     let equals = line.find('=').unwrap();
     vec![
         ("the text ends before it", ""),

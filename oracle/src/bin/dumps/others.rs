@@ -2,6 +2,7 @@
 
 use crate::good::{frame, largest, plain};
 use crate::{Text, text};
+use oracle::random::Random;
 
 pub fn texts() -> Vec<Text> {
     let good = plain(1).concat();
@@ -51,14 +52,7 @@ pub fn longest() -> Vec<Text> {
     ]
 }
 
-/// Bytes of splitmix64.
-fn noise(seed: u64, length: usize) -> Vec<u8> {
-    let mut state = seed;
-    let mut byte = || {
-        state = state.wrapping_add(0x9e37_79b9_7f4a_7c15);
-        let mixed = (state ^ state >> 30).wrapping_mul(0xbf58_476d_1ce4_e5b9);
-        let mixed = (mixed ^ mixed >> 27).wrapping_mul(0x94d0_49bb_1331_11eb);
-        (mixed ^ mixed >> 31) as u8
-    };
-    (0..length).map(|_| byte()).collect()
+pub fn noise(seed: u64, length: usize) -> Vec<u8> {
+    let mut random = Random(seed);
+    (0..length).map(|_| random.byte()).collect()
 }
