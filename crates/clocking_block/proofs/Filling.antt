@@ -7,14 +7,16 @@ use native.Mathlib.Numerals.{add-one}
 use native.Mathlib.Omega.{arith}
 use lib.ListN.{length, set, take, length-set}
 use lib.Seq.{take-suc-set, take-all}
-use Rattle.envelope_table.specs.Shapes.{FollowsRule}
 use Rattle.tables.specs.Levels.{levels}
+use Rattle.envelope_wave.specs.declared.Wave.{Wave}
+use Rattle.envelope_wave.specs.Wave.{waveOf, IsWave}
+use Rattle.envelope_wave.proofs.Entries.{made}
 use Rattle.queue_drain.specs.Drain.{drain}
 use Rattle.queue.specs.Waiting.{ring, QueueInRange}
 use Rattle.chip.specs.declared.Core.{Core}
 use Rattle.chip.specs.declared.Chip.{Chip}
 use Rattle.clocking_word.specs.declared.Worded.{Worded}
-use Rattle.clocking_word.specs.Word.{drained, wordOf, smallOf}
+use Rattle.clocking_word.specs.Word.{drained, offsetIn, wordOf, smallOf}
 use Rattle.clocking_block.specs.Block.{afterOne, afterWords, ticksOf, wordsOf, blockOf}
 use Rattle.chip.specs.Range.{CoreInRange}
 use Rattle.clocking_word.proofs.Stepping.{Stepped, stepped}
@@ -23,9 +25,9 @@ use Rattle.clocking_word.proofs.Stepping.{Stepped, stepped}
 abbrev pub midway : List ℕ → List ℕ → List ℕ → Core → ℕ → ℕ → Chip
 midway stamps registers values core head count = record { core = core; queue = ring stamps registers values head count }
 
-pub record Filling (lent levelled : List ℕ) (c₀ c : Chip) (out₀ out : List ℕ) (ticks i : ℕ) : Type 0 where
-  pub entries : FollowsRule lent
-  pub table : levelled ≡ levels
+pub record Filling (lent : List ℕ) (w : Wave) (c₀ c : Chip) (out₀ out : List ℕ) (ticks i : ℕ) : Type 0 where
+  pub table : lent ≡ levels
+  pub wave : IsWave w
   pub core : CoreInRange (c .core)
   pub queue : QueueInRange (c .queue)
   pub long : length out ≡ length out₀
@@ -38,13 +40,13 @@ pub record Filling (lent levelled : List ℕ) (c₀ c : Chip) (out₀ out : List
   pub last : afterWords left c ≡ afterWords (length out₀) c₀
   pub sum : ticks + ticksOf left c ≡ ticksOf (length out₀) c₀
 
-pub filling-start : {entries table : List ℕ} {c : Chip} {out : List ℕ} → FollowsRule entries → table ≡ levels → CoreInRange (c .core)
+pub filling-start : {table : List ℕ} {w : Wave} {c : Chip} {out : List ℕ} → table ≡ levels → w ≡ waveOf (offsetIn (c .core)) → CoreInRange (c .core)
     → QueueInRange (c .queue) → length out ≤ 65536 → c .core .start + length out * c .core .clocks .cycles < 2 ^ 64
-    → Filling entries table c c out out 0 0
-filling-start {entries} {table} {c} {out} e t h q p s =
+    → Filling table w c c out out 0 0
+filling-start {table} {w} {c} {out} t e h q p s =
     record {
-      entries = e;
       table = t;
+      wave = made (offsetIn (c .core)) e;
       core = h;
       queue = q;
       long = refl;
@@ -63,9 +65,10 @@ more i zero n h e = absurd (omega arith)
 more i (suc k) n h e = (k, refl)
 
 -- one word more, of any chip
-filling-next : {entries table : List ℕ} {c₀ : Chip} (c : Chip) {out₀ out : List ℕ} {ticks i : ℕ} → Filling entries table c₀ c out₀ out ticks i
+filling-next : {table : List ℕ} {v : Wave} {c₀ : Chip} (c : Chip) {out₀ out : List ℕ} {ticks i : ℕ} → Filling table v c₀ c out₀ out ticks i
     → i < length out
-    → (let w = wordOf (c .core) (c .queue) in Filling entries table c₀ (afterOne c) out₀ (set out i (w .word)) (ticks + w .ticks) (i + 1))
+    → (let w = wordOf (c .core) (c .queue) in
+    Filling table (waveOf (offsetIn (w .core))) c₀ (afterOne c) out₀ (set out i (w .word)) (ticks + w .ticks) (i + 1))
 unfolding wordsOf afterWords ticksOf
 filling-next c {out₀} {out} {ticks} {i} f h =
     let (k, n) = more i (f .left) (length out₀) (omega (arith, f .long)) (f .place) in
@@ -73,8 +76,8 @@ filling-next c {out₀} {out} {ticks} {i} f h =
     let cycles = c .core .clocks .cycles in
     let soon : c .core .start + (k * cycles + cycles) < 2 ^ 64 = rw suc-mul at (rw n at (f .soon)) in
     record {
-      entries = f .entries;
       table = f .table;
+      wave = made _ refl;
       core = s .core;
       queue = s .queue;
       long = length-set out i _ ∙ f .long;
@@ -95,8 +98,8 @@ same-slots : (core : Core) (stamps registers values : List ℕ) (head count : �
 unfolding wordOf drained drain
 same-slots core stamps registers values head count = refl
 
-module _ {entries table : List ℕ} {c₀ : Chip} {stamps registers values : List ℕ} {core : Core} {head count : ℕ} {out₀ out : List ℕ}
-    {ticks i : ℕ} (f : Filling entries table c₀ (midway stamps registers values core head count) out₀ out ticks i) where
+module _ {table : List ℕ} {v : Wave} {c₀ : Chip} {stamps registers values : List ℕ} {core : Core} {head count : ℕ} {out₀ out : List ℕ}
+    {ticks i : ℕ} (f : Filling table v c₀ (midway stamps registers values core head count) out₀ out ticks i) where
   -- the next word ends in time
   pub next-soon : i < length out → core .start + core .clocks .cycles < 2 ^ 64
   next-soon h =
@@ -106,7 +109,7 @@ module _ {entries table : List ℕ} {c₀ : Chip} {stamps registers values : Lis
       omega arith
 
   pub filling-on : {w : Worded} → w ≡ smallOf (wordOf core (ring stamps registers values head count)) → i < length out
-      → Filling entries table c₀ (midway stamps registers values (w .core) (w .head) (w .count)) out₀ (set out i (w .word)) (ticks + w .ticks) (i + 1)
+      → Filling table (w .wave) c₀ (midway stamps registers values (w .core) (w .head) (w .count)) out₀ (set out i (w .word)) (ticks + w .ticks) (i + 1)
   filling-on {w} e h = rw e (rw (same-slots core stamps registers values head count) (filling-next (midway stamps registers values core head count) f h))
 
   -- all is filled

@@ -21,10 +21,10 @@ pub fn render(chip: Chip, out: &mut [u16]) -> Rendered
     ensures { λ r. ⌜ now (out .exit) ≡ wordsOf (length (now (out .entry))) chip ⌝ }
 {
     // a const table is rebuilt at each use: copied once, then lent
-    let entries = envelope_table::envelope_entries();
     let table = tables::level_table();
     let ring = chip.queue;
     let mut core = chip.core;
+    let mut wave = envelope_wave::wave_of(core.voice.generators.envelope.offset);
     let mut head = ring.head;
     let mut count = ring.count;
     let mut ticks: u64 = 0;
@@ -37,10 +37,11 @@ pub fn render(chip: Chip, out: &mut [u16]) -> Rendered
             &ring.values,
             head,
             count,
-            &entries,
             &table,
+            wave,
         );
         core = w.core;
+        wave = w.wave;
         head = w.head;
         count = w.count;
         out[i] = w.word;

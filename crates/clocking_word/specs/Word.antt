@@ -4,6 +4,7 @@ use mathlib.Core.List.{List, [], _∷_}
 use Prim.Native.Nat.{ℕ, _+_}
 use Rattle.generators.specs.declared.Generators.{Generators}
 use Rattle.tone.specs.Tone.{isHalved}
+use Rattle.envelope_wave.specs.Wave.{waveOf}
 use Rattle.envelope.specs.Envelope.{envelopeLevel}
 use Rattle.three_channels.specs.declared.Channels.{Channels}
 use Rattle.mixer.specs.declared.Mixed.{Mixed}
@@ -63,6 +64,18 @@ wordFrom c d =
 unfoldable pub wordOf : Core → Queue → Word
 wordOf c q = wordFrom c (drained c q)
 
--- the same where the ring is lent: its place and count come back
+-- where the row of the envelope's shape begins
+abbrev pub offsetIn : Core → ℕ
+offsetIn c = c .voice .generators .envelope .offset
+
+-- the same where the ring is lent: its place and count come back, and the wave of the shape
 abbrev pub smallOf : Word → Worded
-smallOf w = record { core = w .core; head = w .queue .head; count = w .queue .count; word = w .word; ticks = w .ticks }
+smallOf w =
+    record {
+      core = w .core;
+      wave = waveOf (offsetIn (w .core));
+      head = w .queue .head;
+      count = w .queue .count;
+      word = w .word;
+      ticks = w .ticks;
+    }

@@ -3,7 +3,7 @@ use mathlib.Core.List.{List}
 use mathlib.Core.Path.{_≡_}
 use Prim.Native.Nat.{ℕ, _%_}
 use Rattle.text_fields.specs.Fields.{hexByte}
-use Rattle.envelope_table.specs.Shapes.{offsetOf}
+use Rattle.envelope_shapes.specs.Shapes.{offsetOf}
 use Rattle.envelope.specs.declared.Envelope.{Envelope}
 use Rattle.envelope.specs.Envelope.{restartPosition}
 use Rattle.registers.specs.declared.Voice.{Voice}

@@ -6,8 +6,8 @@ use native.Mathlib.Omega.{arith}
 use borrow.Author.Tests.{leb-true, le-leb}
 use lib.IntN.{ℤ, pos, negsuc, +ℤ-one}
 use Rattle.laws.proofs.Tests.{by-le, by-lt}
-use Rattle.envelope_table.specs.Shapes.{shapeEntry, offsetOf}
-use Rattle.envelope_table.proofs.Waves.{shape-entry, offset-real, entry-lt}
+use Rattle.envelope_shapes.specs.Shapes.{shapeEntry, offsetOf}
+use Rattle.envelope_shapes.proofs.Waves.{shape-entry, offset-real, entry-lt}
 use Rattle.envelope.specs.declared.Envelope.{Envelope}
 use Rattle.envelope.specs.Envelope.{restartPosition, envelopeReset, envelopeSet, restarted, shaped, nextPosition, envelopeTick, rowPlace, envelopeLevel}
 use Rattle.envelope.specs.Range.{PositionInRange, EnvelopeInRange}
@@ -54,6 +54,11 @@ envelope-reset-in e = record { position = record { from = refl; to = refl }; off
 
 pub shaped-in : (shape : ℕ) (e : Envelope) → EnvelopeInRange (shaped shape e)
 shaped-in shape e = record { position = start-in; offset = offset-real (shape % 16) (omega arith) }
+
+-- a tick leaves the shape
+pub tick-offset : (e : Envelope) → envelopeTick e .offset ≡ e .offset
+unfolding envelopeTick
+tick-offset e = by-le (λ (x : Envelope). x .offset ≡ e .offset) (e .period) (e .counter + 1) (λ _. refl) (λ _. refl)
 
 module _ {e : Envelope} (h : EnvelopeInRange e) where
   pub envelope-set-in : (period : ℕ) → EnvelopeInRange (envelopeSet period e)

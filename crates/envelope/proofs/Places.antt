@@ -79,3 +79,7 @@ module _ (p : ℤ) (r : PositionInRange p) where
 
   pub place-cast : (z : ℤ) → z ≡ pos (rowPlace p) → T (nonNeg z) × Fits w64 (natAbs z)
   place-cast z e = rw e (tt, record { fits = omega (arith, place-lt p r) })
+
+  -- the position that is passed on is the one stored
+  pub placed : {n : ℕ} → n ≡ rowPlace (toZ w32 (ofZ w32 p)) → n ≡ rowPlace p
+  placed e = e ∙ ap rowPlace (same p fits)

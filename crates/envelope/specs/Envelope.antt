@@ -4,7 +4,7 @@ use Prim.Native.Nat.{ℕ, _+_, _%_}
 use lib.Dec.{leb}
 use lib.IntN.{ℤ, pos, negsuc, natAbs, _+ℤ_}
 use lib.Signed.{ltZ}
-use Rattle.envelope_table.specs.Shapes.{offsetOf, envelopeEntry}
+use Rattle.envelope_shapes.specs.Shapes.{offsetOf, envelopeEntry}
 use Rattle.envelope.specs.declared.Envelope.{Envelope}
 
 -- Reset sets envelope counter, position and shape offset to 0. It keeps envelope period.

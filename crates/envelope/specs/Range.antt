@@ -3,7 +3,7 @@ use mathlib.Core.Bool.{true}
 use mathlib.Core.Path.{_≡_}
 use lib.IntN.{ℤ, pos}
 use lib.Signed.{leZ}
-use Rattle.envelope_table.specs.Shapes.{RealOffset}
+use Rattle.envelope_shapes.specs.Shapes.{RealOffset}
 use Rattle.envelope.specs.declared.Envelope.{Envelope}
 use Rattle.envelope.specs.Envelope.{restartPosition}
 

@@ -1,8 +1,9 @@
 // The envelope. 01, "Power-on and reset", "Registers and ports" and "One tick, one word"; the crate's generators.rs.
 ghost use mathlib.Core.Path.{_≡_};
-ghost use Rattle.envelope_table.specs.Shapes.{FollowsRule};
+ghost use Rattle.envelope_wave.specs.Wave.{waveOf};
 ghost use Rattle.envelope.specs.Envelope.{envelopeTick, envelopeReset, envelopeSet, shaped, restarted, nextPosition, rowPlace, envelopeLevel};
 ghost use Rattle.envelope.specs.Range.{PositionInRange, EnvelopeInRange};
+use envelope_wave::Wave;
 
 // `offset` is where the shape's row begins.
 #[repr(C)]
@@ -30,7 +31,7 @@ impl Envelope {
         ensures { λ r. ⌜ r ≡ shaped shape self ⌝ }
     {
         let mut next = self;
-        let offset = envelope_table::shape_offset(shape);
+        let offset = envelope_shapes::shape_offset(shape);
         next.offset = offset;
         next.trigger()
     }
@@ -59,13 +60,20 @@ impl Envelope {
         next
     }
 
-    // `entries` are those of `envelope_table::envelope_entries`.
-    pub fn level(self, entries: &[u8; 1280]) -> u8
+    pub fn level(self) -> u8
         requires { ⌜ EnvelopeInRange self ⌝ }
-        requires { ⌜ FollowsRule (now entries) ⌝ }
         ensures { λ r. ⌜ r ≡ envelopeLevel self ⌝ }
     {
-        envelope_table::envelope_entry(entries, self.offset, place(self.position))
+        envelope_shapes::envelope_entry(self.offset, place(self.position))
+    }
+
+    // The same where the shape's wave is at hand.
+    pub fn level_in(self, wave: Wave) -> u8
+        requires { ⌜ EnvelopeInRange self ⌝ }
+        requires { ⌜ wave ≡ waveOf (self .offset) ⌝ }
+        ensures { λ r. ⌜ r ≡ envelopeLevel self ⌝ }
+    {
+        wave.entry(place(self.position))
     }
 
     // The period stays.

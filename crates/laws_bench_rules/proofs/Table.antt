@@ -7,7 +7,7 @@ use Rattle.text_entries.specs.Entries.{lineEntryAt}
 use Rattle.dump_lines.specs.OneLine.{masterLineNo, rateLineNo, wordsLineNo, framesLineNo, isFrame, frameAt}
 use Rattle.dump_clocks.specs.Clocks.{clockLines}
 use Rattle.dump.specs.Checked.{framesFrom, sized, verdictOf}
-use Rattle.envelope_table.specs.Shapes.{shapeEntry, envelopeEntry}
+use Rattle.envelope_shapes.specs.Shapes.{shapeEntry, envelopeEntry}
 use Rattle.tone.specs.Tone.{toneSet, toneStep, toneTick}
 use Rattle.noise.specs.Noise.{registerStep, outputBy, noiseTick}
 use Rattle.envelope.specs.Envelope.{nextPosition, envelopeTick, rowPlace, envelopeLevel}

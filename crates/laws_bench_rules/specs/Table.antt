@@ -2,7 +2,7 @@
 use mathlib.Core.List.{[], _∷_, map}
 use mathlib.Core.Path.{_≡_}
 use lib.IntN.{pos}
-use Rattle.envelope_table.specs.Shapes.{offsetOf, envelopeEntry}
+use Rattle.envelope_shapes.specs.Shapes.{offsetOf, envelopeEntry}
 use Rattle.envelope.specs.Envelope.{rowPlace, envelopeLevel}
 use Rattle.generators.specs.Generators.{edgesOf}
 use Rattle.power_on.specs.Seed.{seeded, powerOnEdges}

@@ -1,11 +1,11 @@
 -- The calls inside the layers are settled (`Settled`). Assumes nothing.
-use Prim.Native.Nat.{ℕ, _<_}
-use lib.ListN.{getD}
 use Rattle.tables.proofs.register_mask as register-mask
 use Rattle.tables.proofs.gate_mask as gate-mask
-use Rattle.envelope_table.proofs.shape_offset as shape-offset
-use Rattle.envelope_table.proofs.envelope_entries as envelope-entries
-use Rattle.envelope_table.proofs.envelope_entry as envelope-entry
+use Rattle.envelope_shapes.proofs.shape_offset as shape-offset
+use Rattle.envelope_shapes.proofs.envelope_entry as envelope-entry
+use Rattle.envelope_wave.proofs.wave_of as wave-of
+use Rattle.envelope_wave.proofs.wave_after as wave-after
+use Rattle.envelope_wave.proofs.Wave.entry as wave-entry
 use Rattle.tables.proofs.level_table as level-table
 use Rattle.tables.proofs.level
 use Rattle.tone.proofs.Tone.set_period as tone-set-period
@@ -25,6 +25,7 @@ use Rattle.envelope.proofs.Envelope.set_shape as envelope-set-shape
 use Rattle.envelope.proofs.Envelope.trigger as envelope-trigger
 use Rattle.envelope.proofs.Envelope.tick as envelope-tick
 use Rattle.envelope.proofs.Envelope.level as envelope-level
+use Rattle.envelope.proofs.Envelope.level_in as envelope-level-in
 use Rattle.envelope.proofs.Envelope.reset as envelope-reset
 use Rattle.envelope.proofs.next_position as next-position
 use Rattle.generators.proofs.Generators.new as generators-new
@@ -82,15 +83,16 @@ use Rattle.chip_parts.proofs.with_voice as with-voice
 use Rattle.chip_parts.proofs.with_channels as with-channels
 use Rattle.block_limits.proofs.block_no as block-no
 use Rattle.calls_words.proofs.refused as block-refused
-use Rattle.laws_one_answer.specs.Settled.{Settles, SettlesAs}
+use Rattle.laws_one_answer.specs.Settled.{Settles}
 
 pub record Parts : Type 2 where
   pub register-mask : Settles register-mask.ended (λ M. register-mask.clauses)
   pub gate-mask : Settles gate-mask.ended (λ M. gate-mask.clauses)
   pub shape-offset : Settles shape-offset.ended (λ M. shape-offset.clauses)
-  -- a table by its rule: each of its 1,280 entries is settled
-  pub envelope-entries : (i : ℕ) → i < 1280 → SettlesAs envelope-entries.ended (λ M. envelope-entries.clauses) (λ h x. getD (x .0) i 0)
   pub envelope-entry : Settles envelope-entry.ended (λ M. envelope-entry.clauses)
+  pub wave-of : Settles wave-of.ended (λ M. wave-of.clauses)
+  pub wave-after : Settles wave-after.ended (λ M. wave-after.clauses)
+  pub wave-entry : Settles wave-entry.ended (λ M. wave-entry.clauses)
   pub level-table : Settles level-table.ended (λ M. level-table.clauses)
   pub level : Settles level.ended (λ M. level.clauses)
   pub tone-set-period : Settles tone-set-period.ended (λ M. tone-set-period.clauses)
@@ -110,6 +112,7 @@ pub record Parts : Type 2 where
   pub envelope-trigger : Settles envelope-trigger.ended (λ M. envelope-trigger.clauses)
   pub envelope-tick : Settles envelope-tick.ended (λ M. envelope-tick.clauses)
   pub envelope-level : Settles envelope-level.ended (λ M. envelope-level.clauses)
+  pub envelope-level-in : Settles envelope-level-in.ended (λ M. envelope-level-in.clauses)
   pub envelope-reset : Settles envelope-reset.ended (λ M. envelope-reset.clauses)
   pub next-position : Settles next-position.ended (λ M. next-position.clauses)
   pub generators-new : Settles generators-new.ended (λ M. generators-new.clauses)

@@ -5,7 +5,7 @@ use mathlib.Core.Path.{_≡_, refl}
 use Prim.Native.Nat.{ℕ}
 use lib.IntN.{negsuc}
 use lib.ListN.{length}
-use Rattle.envelope_table.specs.Shapes.{shapeEntry, envelopeEntry}
+use Rattle.envelope_shapes.specs.Shapes.{shapeEntry, envelopeEntry}
 use Rattle.tone.specs.Tone.{toneSet, toneStep, toneTick}
 use Rattle.noise.specs.Noise.{registerStep, outputBy, noiseTick}
 use Rattle.envelope.specs.Envelope.{nextPosition, envelopeTick, rowPlace, envelopeLevel}

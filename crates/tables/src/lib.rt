@@ -1,4 +1,4 @@
-// The small tables of tables.rs, each behind a lookup that is promised by its rule in 01. (The envelope's stands in `envelope_table`.)
+// The small tables of tables.rs, each behind a lookup that is promised by its rule in 01. (The envelope's entries are worked out, by `envelope_shapes`.)
 ghost use mathlib.Core.Path.{_≡_};
 ghost use Prim.Native.Nat.{_%_, _<_};
 ghost use Rattle.tables.specs.Masks.{registerMask, gateMask};

@@ -102,8 +102,7 @@ fn level_of(e: Envelope) -> u64 {
     if e.offset > 1152 {
         return 99;
     }
-    let entries = envelope_table::envelope_entries();
-    e.level(&entries) as u64
+    e.level() as u64
 }
 
 // Calls one after the other, each on what the one before it left.
@@ -157,7 +156,7 @@ fn place(kind: u64, n: u32, i: u8) {
 
 fn number(kind: u64, n: u32, i: u8) -> u64 {
     match kind {
-        form::OFFSETS => envelope_table::shape_offset(i) as u64,
+        form::OFFSETS => envelope_shapes::shape_offset(i) as u64,
         form::LEVELS => table_level(i % 32),
         form::ROW => table_entry(n % 10, i % 128),
         form::SEEDS => power_on::random_seed(seed(i)) as u64,
@@ -182,9 +181,15 @@ fn table_level(i: u8) -> u64
     tables::level(&table, i) as u64
 }
 
+// 99 where the row's wave gives another: none does.
 fn table_entry(row: u32, place: u8) -> u64
-    requires { ⌜ (row < 10) × (place < 128) ⌝ }
+    requires { ⌜ row < 10 ⌝ }
 {
-    let entries = envelope_table::envelope_entries();
-    envelope_table::envelope_entry(&entries, row as u16 * 128, place as usize) as u64
+    let offset = row as u16 * 128;
+    let entry = envelope_shapes::envelope_entry(offset, place as usize);
+    let wave = envelope_wave::wave_of(offset);
+    if wave.entry(place as usize) != entry {
+        return 99;
+    }
+    entry as u64
 }

@@ -8,25 +8,25 @@ use Rattle.clocking_block.proofs.render.Statement.{statement}
 use Rattle.clocking_block.proofs.render.Tie as tie
 
 abbrev Inv-loop : tie.InvT-loop
-Inv-loop out₀ entries table ring core₀ head₀ count₀ ticks₀ i₀ out core head count ticks i =
-    Filling entries table (record { core = core₀; queue = ring }) (midway (ring .stamps) (ring .registers) (ring .values) core head count) out₀ out ticks i
+Inv-loop out₀ table ring core₀ wave₀ head₀ count₀ ticks₀ i₀ out core wave head count ticks i =
+    Filling table wave (record { core = core₀; queue = ring }) (midway (ring .stamps) (ring .registers) (ring .values) core head count) out₀ out ticks i
 
 abbrev μ-loop : tie.MeasureT-loop
-μ-loop out₀ entries table ring core₀ head₀ count₀ ticks₀ i₀ out core head count ticks i = length out₀ - i
-
-envelope-entries-requires : tie.Need-envelope-entries-requires Inv-loop μ-loop
-envelope-entries-requires c κs = search needs
+μ-loop out₀ table ring core₀ wave₀ head₀ count₀ ticks₀ i₀ out core wave head count ticks i = length out₀ - i
 
 level-table-requires : tie.Need-level-table-requires Inv-loop μ-loop
 level-table-requires c κs = search needs
+
+wave-of-requires : tie.Need-wave-of-requires Inv-loop μ-loop
+wave-of-requires c κs = search needs
 
 loop-holds : tie.Need-loop-holds Inv-loop μ-loop
 loop-holds c = search filling-start
 
 word-requires : tie.Need-word-requires Inv-loop μ-loop
 word-requires c κs =
-    let inv = c .before .before .before .before .before .before .before .loop .inv in
-    (inv .core, (inv .queue, (search next-soon, (inv .entries, inv .table))))
+    let inv = c .before .before .before .before .before .before .loop .inv in
+    (inv .core, (inv .queue, (search next-soon, (inv .table, inv .wave))))
 
 mul-out : tie.Need-mul-out Inv-loop μ-loop
 mul-out c = search needs
@@ -38,7 +38,7 @@ cast-ticks : tie.Need-cast-ticks Inv-loop μ-loop
 cast-ticks c = search needs
 
 add-ticks : tie.Need-add-ticks Inv-loop μ-loop
-add-ticks c = let l = c .before .before .before .before .before .before .before .before .before in omega (arith, l .before .loop .inv .few, l .before .loop .inv .place, l .before .loop .inv .room, l .before .loop .inv .long, l .loop-test .taken)
+add-ticks c = let l = c .before .before .before .before .before .before .before .before .before in omega (arith, c .struct-known .given, l .before .loop .inv .few, l .before .loop .inv .place, l .before .loop .inv .room, l .before .loop .inv .long, l .loop-test .taken)
 
 add-i : tie.Need-add-i Inv-loop μ-loop
 add-i c = let l = c .before .before .before .before .before .before .before .before .before in omega (arith, l .before .loop .inv .place, l .before .loop .inv .room)
@@ -47,7 +47,7 @@ loop-less : tie.Need-loop-less Inv-loop μ-loop
 loop-less c = let l = c .before .before .before .before .before .before .before .before .before in omega (arith, l .before .loop .inv .long, l .loop-test .taken)
 
 loop-again : tie.Need-loop-again Inv-loop μ-loop
-loop-again c = let l = c .before .before .before .before .before .before .before .before .before in filling-on (l .before .loop .inv) (c .before .before .word .ensures) (l .loop-test .taken)
+loop-again c = let l = c .before .before .before .before .before .before .before .before .before in filling-on (l .before .loop .inv) (c .before .before .before .word .ensures) (l .loop-test .taken)
 
 same-length : tie.Need-same-length Inv-loop μ-loop
 same-length c = c .before .loop .inv .long
@@ -61,8 +61,8 @@ render-spec =
     (tie.spec
     Inv-loop
     μ-loop
-    envelope-entries-requires
     level-table-requires
+    wave-of-requires
     loop-holds
     word-requires
     mul-out

@@ -6,8 +6,8 @@ use borrow.Author.Needs.{needs}
 use Rattle.clocking_word.proofs.mix_word.Statement.{statement}
 use Rattle.clocking_word.proofs.mix_word.Tie as tie
 
-level-requires : tie.Need-level-requires
-level-requires c κs = search needs
+level-in-requires : tie.Need-level-in-requires
+level-in-requires c κs = search needs
 
 element-copy-out-t13 : tie.Need-element-copy-out-t13
 element-copy-out-t13 c = search needs
@@ -31,7 +31,7 @@ mix-requires : tie.Need-mix-requires
 mix-requires c κs =
     let l = c .before .before .before .before .before .before in
     let start = l .before .before in
-    (rw (l .level .ensures) (envelope-level-lt (start .pre .0)), start .pre .1 .1)
+    (rw (l .level-in .ensures) (envelope-level-lt (start .pre .0)), start .pre .1 .0)
 
 returns : tie.Need-returns
 unfolding mixedOf
@@ -39,13 +39,13 @@ returns c =
     let h = c .before in
     let l = h .before .before .before .before .before .before in
     c .mix .ensures
-    ∙ rw (h .is-half-amplitude3 .ensures, h .before .is-half-amplitude2 .ensures, h .before .before .is-half-amplitude .ensures, l .level .ensures)
+    ∙ rw (h .is-half-amplitude3 .ensures, h .before .is-half-amplitude2 .ensures, h .before .before .is-half-amplitude .ensures, l .level-in .ensures)
 
 pub mix-word-spec : {M : Type 1} → statement M
 mix-word-spec =
     tie.close
     (tie.spec
-    level-requires
+    level-in-requires
     element-copy-out-t13
     element-copy-out-t16
     element-copy-out-t19

@@ -16,17 +16,12 @@ returns-3 c = search needs
 returns-4 : tie.Need-returns-4
 returns-4 c = search needs
 
-envelope-entries-requires : tie.Need-envelope-entries-requires
-envelope-entries-requires c κs = search needs
-
 level-requires : tie.Need-level-requires
-level-requires c κs = (
-  record {
-    position = record { from = search (needs, at-least); to = search (needs, at-most) };
-    offset = record { row = search needs; last = search needs };
-  },
-  search needs,
-)
+level-requires c κs =
+    record {
+      position = record { from = search (needs, at-least); to = search (needs, at-most) };
+      offset = record { row = search needs; last = search needs };
+    }
 
 cast-result : tie.Need-cast-result
 cast-result c = search needs
@@ -42,7 +37,6 @@ level-of-spec =
     returns-2
     returns-3
     returns-4
-    envelope-entries-requires
     level-requires
     cast-result
     returns-5)
