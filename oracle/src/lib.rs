@@ -25,3 +25,4 @@ pub mod script;
 pub mod set;
 pub mod shape_cases;
 pub mod text;
+pub mod wave_cases;

@@ -5,6 +5,7 @@ use crate::tally::Tally;
 use oracle::random::Random;
 use oracle::refusal::MASTER_MAX;
 use oracle::script::Bench;
+use oracle::wave_cases::Case;
 
 /// Most clocks have a word of at most so many ticks, and slow ones of at most so many.
 const SOME_TICKS: u64 = 700;
@@ -14,6 +15,8 @@ const SOME_WORDS: u64 = 24;
 
 /// A script, what the oracle prints for it, and its tally.
 pub struct Drawn {
+    /// Its name, where it was not drawn.
+    pub case: Option<String>,
     pub script: String,
     pub printed: String,
     pub calls: u64,
@@ -46,8 +49,21 @@ pub fn script(random: &mut Random, tally: &mut Tally, begin_on_default: bool) ->
     while draw.bench.calls < calls && !draw.spent() {
         draw.act(mood.acts);
     }
-    let Bench { calls, words, ticks, .. } = draw.bench;
-    Drawn { script: draw.script, printed: draw.printed, calls, words, ticks }
+    drawn(None, draw.script, draw.printed, draw.bench)
+}
+
+/// A case in the place of a drawn script.
+pub fn case(case: Case) -> Drawn {
+    let (mut bench, mut printed) = (Bench::default(), String::new());
+    for line in case.script.lines() {
+        assert!(bench.line(line, &mut printed), "{}: {line}", case.name);
+    }
+    drawn(Some(case.name), case.script, printed, bench)
+}
+
+fn drawn(case: Option<String>, script: String, printed: String, bench: Bench) -> Drawn {
+    let Bench { calls, words, ticks, .. } = bench;
+    Drawn { case, script, printed, calls, words, ticks }
 }
 
 impl Draw<'_> {

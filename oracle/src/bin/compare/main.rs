@@ -152,6 +152,11 @@ fn compare(options: &Options) {
         }
     }
     // Last, so that it is seen whether drawn texts show a fault.
+    if let Some(path) = &options.replay {
+        if !(options.first && differ(&scripts, &players)) {
+            scripts.compare_cases(path, options.first);
+        }
+    }
     for place in 0..players.len() {
         if !(options.first && differ(&scripts, &players)) {
             players[place].compare_cases(options.first);

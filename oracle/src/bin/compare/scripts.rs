@@ -9,6 +9,7 @@ use crate::{BATCH, Options, SHRINKING};
 use oracle::random::Random;
 use oracle::refusal::{self, ACCEPTED};
 use oracle::script::Bench;
+use oracle::wave_cases;
 use std::time::Instant;
 
 /// Ticks that a script being shrunk may always run.
@@ -20,6 +21,7 @@ pub struct Scripts {
     pub words: u64,
     pub ticks: u64,
     pub scripts: u64,
+    pub cases: u64,
     pub differences: u64,
 }
 
@@ -57,10 +59,19 @@ impl Batches {
 
 impl Scripts {
     pub fn report(&self, path: &str) {
+        let Scripts { calls, words, ticks, scripts, cases, differences } = self;
         println!(
-            "calls={} words={} ticks={} scripts={} differences={} ({path})",
-            self.calls, self.words, self.ticks, self.scripts, self.differences
+            "calls={calls} words={words} ticks={ticks} scripts={scripts} cases={cases} differences={differences} ({path})"
         );
+    }
+
+    /// The cases, a process to each, up to the first difference where that is enough.
+    pub fn compare_cases(&mut self, path: &str, first: bool) {
+        for case in wave_cases::all() {
+            if !(first && self.differences > 0) {
+                self.compare(path, &[draw::case(case)], first);
+            }
+        }
     }
 
     pub fn compare(&mut self, path: &str, batch: &[Drawn], first: bool) {
@@ -73,12 +84,19 @@ impl Scripts {
             if let Some(parting) = parting(drawn.printed.as_bytes(), its_own) {
                 self.differences += 1;
                 if self.differences == 1 {
-                    println!("first difference at call {}", self.calls + parting.line as u64 / 2 + 1);
+                    match &drawn.case {
+                        Some(name) => println!("first difference at case {name}"),
+                        None => println!("first difference at call {}", self.calls + parting.line as u64 / 2 + 1),
+                    }
                     show(path, &batch[..place], drawn);
                 }
                 if first {
                     return;
                 }
+            }
+            if drawn.case.is_some() {
+                self.cases += 1;
+                continue;
             }
             self.calls += drawn.calls;
             self.words += drawn.words;
