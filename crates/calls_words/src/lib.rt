@@ -1,7 +1,7 @@
 // One word, and a block of words into a lent buffer. 01, "One tick, one word".
 ghost use mathlib.Core.Path.{_≡_};
 ghost use lib.ListN.{length};
-ghost use Rattle.calls_words.specs.Blocks.{blockBuffer, blockRefused, blocked, sampled};
+ghost use Rattle.calls_words.specs.Blocks.{blockBuffer, blockRefused, blocked, sampleRefused, sampled};
 use answers::Blocked;
 use answers::Played;
 use answers::Sample;
@@ -34,17 +34,23 @@ pub fn block(chip: Chip, out: &mut [u16]) -> Blocked
     }
 }
 
-// The pre-filter word and its ticks: a block of one.
+// The pre-filter word and its ticks. It answers as a block of one does, and does not go through the block's loop.
 pub fn compute_next_sample(chip: Chip) -> Sampled
     ensures { λ r. ⌜ r ≡ sampled chip ⌝ }
 {
-    let mut out = [0u16; 1];
-    let played = block(chip, &mut out);
-    let after = played.chip;
+    if !chip::in_range(chip) {
+        return unsampled(chip, refusals::OUT_OF_RANGE);
+    }
+    let no = block_limits::block_no(chip.core.start, chip.core.clocks.cycles, 1);
+    if no != refusals::ACCEPTED {
+        return unsampled(chip, no);
+    }
+    let one = clocking_one::one_word(chip);
+    let after = one.chip;
     let answer = Sample {
-        no: played.answer.no,
-        word: out[0],
-        ticks: played.answer.ticks,
+        no: refusals::ACCEPTED,
+        word: one.word,
+        ticks: one.ticks as u64,
     };
     Sampled {
         chip: after,
@@ -62,4 +68,16 @@ pub fn refused(chip: Chip, number: u8) -> Blocked
         ticks: 0,
     };
     Blocked { chip, answer }
+}
+
+// Nothing changes, word 0, 0 ticks.
+fn unsampled(chip: Chip, number: u8) -> Sampled
+    ensures { λ r. ⌜ r ≡ sampleRefused number chip ⌝ }
+{
+    let answer = Sample {
+        no: number,
+        word: 0,
+        ticks: 0,
+    };
+    Sampled { chip, answer }
 }

@@ -6,7 +6,7 @@ use native.Mathlib.Omega.{arith}
 use lib.ListN.{length}
 use Rattle.chip.specs.declared.Chip.{Chip}
 use Rattle.clocking_word.specs.Word.{wordOf}
-use Rattle.clocking_block.specs.Block.{afterOne, afterWords, wordsOf}
+use Rattle.clocking_block.specs.Block.{afterOne, afterWords, ticksOf, wordsOf}
 
 pub words-long : (n : ℕ) (c : Chip) → length (wordsOf n c) ≡ n
 unfolding wordsOf
@@ -24,3 +24,11 @@ words-split zero b c = let z : 0 + b ≡ b = omega arith in rw z
 words-split (suc a) b c =
     let z : suc a + b ≡ suc (a + b) = omega arith in
     rw z (ap (λ (l : List ℕ). wordOf (c .core) (c .queue) .word ∷ l) (words-split a b (afterOne c)))
+
+pub ticks-split : (a b : ℕ) (c : Chip) → ticksOf (a + b) c ≡ ticksOf a c + ticksOf b (afterWords a c)
+unfolding ticksOf afterWords
+ticks-split zero b c = let z : 0 + b ≡ b = omega arith in rw z (omega arith)
+ticks-split (suc a) b c =
+    let z : suc a + b ≡ suc (a + b) = omega arith in
+    let more = ticks-split a b (afterOne c) in
+    rw z (omega arith)

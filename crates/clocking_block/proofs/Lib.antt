@@ -1,2 +1,3 @@
+pub mod Quiet
 pub mod Filling
 pub mod Joined

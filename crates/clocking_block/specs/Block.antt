@@ -1,6 +1,9 @@
 -- A block of words, one after the other. 01, "One tick, one word". Assumes nothing.
+use mathlib.Core.Bool.{cond}
 use mathlib.Core.List.{List, [], _∷_}
 use Prim.Native.Nat.{ℕ, zero, suc, _+_}
+use lib.Dec.{eqb}
+use lib.ListN.{getD}
 use Rattle.chip.specs.declared.Chip.{Chip}
 use Rattle.clocking_word.specs.Word.{wordOf}
 use Rattle.clocking_block.specs.declared.Rendered.{Rendered}
@@ -23,3 +26,7 @@ wordsOf (suc n) c = wordOf (c .core) (c .queue) .word ∷ wordsOf n (afterOne c)
 
 abbrev pub blockOf : ℕ → Chip → Rendered
 blockOf n c = record { chip = afterWords n c; ticks = ticksOf n c }
+
+-- the stamp of the first waiting write, or one that no word's end is past
+unfoldable pub nextDue : List ℕ → ℕ → ℕ → ℕ
+nextDue stamps head count = cond (eqb count 0) 0xffff_ffff_ffff_ffff (getD stamps head 0)

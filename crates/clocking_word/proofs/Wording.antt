@@ -1,11 +1,6 @@
 -- A word from what its calls give: the drain, the ticks, the mix. Assumes nothing.
 use mathlib.Core.Path.{_≡_}
-use Prim.Native.Nat.{ℕ}
-use Rattle.envelope_wave.specs.declared.Wave.{Wave}
-use Rattle.envelope_wave.specs.Wave.{waveOf}
 use Rattle.envelope.specs.Range.{EnvelopeInRange}
-use Rattle.generators.specs.declared.Generators.{Generators}
-use Rattle.gates.specs.declared.Gates.{Gates}
 use Rattle.mixer.specs.declared.Mixed.{Mixed}
 use Rattle.registers.specs.Registers.{withGenerators}
 use Rattle.registers.specs.Range.{VoiceInRange}
@@ -18,7 +13,7 @@ use Rattle.clocking_ticks.specs.declared.Ran.{Ran}
 use Rattle.clocking_ticks.specs.Ticks.{ticked}
 use Rattle.clocking_word.specs.Word.{endOf, drained, ranOf, mixedOf, afterWord, wordOf, smallOf}
 use Rattle.chip.specs.Range.{CoreInRange}
-use Rattle.clocking_ticks.proofs.Ranging.{ticked-in, ticked-shape}
+use Rattle.clocking_ticks.proofs.Ranging.{ticked-in}
 
 -- what a drain leaves of the small state
 abbrev pub left : Core → Queue → Drained
@@ -30,11 +25,6 @@ left c q =
 pub drained-voice : (c : Core) (q : Queue) {d : Drained} → d ≡ left c q → CoreInRange c → VoiceInRange (d .voice)
 drained-voice c q e h = rw e (drained-in (endOf c) q (h .voice))
 
--- ticks leave the shape, and so its wave
-pub run-wave : (gates : Gates) (rate internal : ℕ) (g : Generators) (accumulator : ℕ) {r : Ran} {w : Wave}
-    → r ≡ ticked gates rate internal g accumulator → w ≡ waveOf (g .envelope .offset) → w ≡ waveOf (r .generators .envelope .offset)
-run-wave gates rate internal g accumulator f h = rw (f, ticked-shape) h
-
 module _ (c : Core) (q : Queue) {d : Drained} {r : Ran} (e : d ≡ left c q)
     (f : r ≡ ticked (d .voice .gates) (c .clocks .rate) (c .clocks .internal) (d .voice .generators) (c .accumulator)) where
   pub run-in : CoreInRange c → EnvelopeInRange (r .generators .envelope)
@@ -42,11 +32,9 @@ module _ (c : Core) (q : Queue) {d : Drained} {r : Ran} (e : d ≡ left c q)
       let v : VoiceInRange (d .voice) = drained-voice c q e h in
       rw f (ticked-in (d .voice .gates) (c .clocks .rate) (c .clocks .internal) (c .accumulator) (v .generators) .envelope)
 
-  pub word-is : {m : Mixed} {w : Wave} → m ≡ mixedOf (c .channels) (withGenerators (r .generators) (d .voice)) (r .gate)
-      → w ≡ waveOf (r .generators .envelope .offset)
+  pub word-is : {m : Mixed} → m ≡ mixedOf (c .channels) (withGenerators (r .generators) (d .voice)) (r .gate)
       → record {
         core = afterWord c (withGenerators (r .generators) (d .voice)) (r .accumulator) (m .channels);
-        wave = w;
         head = d .head;
         count = d .count;
         word = m .word;
@@ -54,4 +42,4 @@ module _ (c : Core) (q : Queue) {d : Drained} {r : Ran} (e : d ≡ left c q)
       }
       ≡ smallOf (wordOf c q)
   unfolding wordOf drained ranOf
-  word-is m w = rw (m, w, f, e)
+  word-is m = rw (m, f, e)

@@ -4,7 +4,6 @@ use mathlib.Core.List.{List, [], _∷_}
 use Prim.Native.Nat.{ℕ, _+_}
 use Rattle.generators.specs.declared.Generators.{Generators}
 use Rattle.tone.specs.Tone.{isHalved}
-use Rattle.envelope_wave.specs.Wave.{waveOf}
 use Rattle.envelope.specs.Envelope.{envelopeLevel}
 use Rattle.three_channels.specs.declared.Channels.{Channels}
 use Rattle.mixer.specs.declared.Mixed.{Mixed}
@@ -68,14 +67,6 @@ wordOf c q = wordFrom c (drained c q)
 abbrev pub offsetIn : Core → ℕ
 offsetIn c = c .voice .generators .envelope .offset
 
--- the same where the ring is lent: its place and count come back, and the wave of the shape
+-- the same where the ring is lent: its place and count come back
 abbrev pub smallOf : Word → Worded
-smallOf w =
-    record {
-      core = w .core;
-      wave = waveOf (offsetIn (w .core));
-      head = w .queue .head;
-      count = w .queue .count;
-      word = w .word;
-      ticks = w .ticks;
-    }
+smallOf w = record { core = w .core; head = w .queue .head; count = w .queue .count; word = w .word; ticks = w .ticks }

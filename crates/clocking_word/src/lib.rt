@@ -2,28 +2,26 @@
 ghost use mathlib.Core.Path.{_≡_};
 ghost use Prim.Native.Nat.{_+_, _^_, _<_};
 ghost use Rattle.tables.specs.Levels.{levels};
-ghost use Rattle.envelope_wave.specs.Wave.{waveOf, IsWave};
 ghost use Rattle.envelope.specs.Range.{EnvelopeInRange};
 ghost use Rattle.queue.specs.Waiting.{ring, QueueInRange};
 ghost use Rattle.chip.specs.Range.{CoreInRange};
-ghost use Rattle.clocking_word.specs.Word.{mixedOf, wordOf, smallOf};
+ghost use Rattle.clocking_word.specs.Word.{volumes, halves, mixedOf, wordOf, smallOf};
 use chip::Core;
-use envelope_wave::Wave;
+use generators::Generators;
 use mixer::Mixed;
 use registers::Voice;
 use three_channels::Channels;
 
-// A word, and the small state after it with its shape's wave; the ring's slots are as they were.
+// A word, and the small state after it; the ring's slots are as they were.
 pub struct Worded {
     pub core: Core,
-    pub wave: Wave,
     pub head: usize,
     pub count: usize,
     pub word: u16,
     pub ticks: u32,
 }
 
-// The ring and the levels are lent: a word copies neither. The wave is handed on, and made anew only where the shape is another.
+// One word by itself. The ring and the levels are lent: a word copies neither.
 pub fn word<'t>(
     core: Core,
     stamps: &'t [u64; 256],
@@ -32,19 +30,16 @@ pub fn word<'t>(
     head: usize,
     count: usize,
     table: &'t [u16; 32],
-    wave: Wave,
 ) -> Worded
     requires { ⌜ CoreInRange core ⌝ }
     requires { ⌜ QueueInRange (ring (now stamps) (now registers) (now values) head count) ⌝ }
     requires { ⌜ core .start + core .clocks .cycles < 2 ^ 64 ⌝ }
     requires { ⌜ now table ≡ levels ⌝ }
-    requires { ⌜ IsWave wave ⌝ }
     ensures { λ r. ⌜ r ≡ smallOf (wordOf core (ring (now (stamps .entry)) (now (registers .entry)) (now (values .entry)) head count)) ⌝ }
 {
     let end = core.start + core.clocks.cycles;
     let drained = queue_drain::drain(core.voice, stamps, registers, values, head, count, end);
     let mut voice = drained.voice;
-    let wave = envelope_wave::wave_after(wave, voice.generators.envelope.offset);
     let ran = clocking_ticks::run_ticks(
         voice.generators,
         voice.gates,
@@ -54,7 +49,7 @@ pub fn word<'t>(
     );
     let generators = ran.generators;
     voice.generators = generators;
-    let mixed = mix_word(core.channels, voice, ran.gate, table, wave);
+    let mixed = mix_word(core.channels, voice, ran.gate, table);
     let channels = mixed.channels;
     let mut next = core;
     next.voice = voice;
@@ -63,7 +58,6 @@ pub fn word<'t>(
     next.start = end;
     Worded {
         core: next,
-        wave,
         head: drained.head,
         count: drained.count,
         word: mixed.word,
@@ -72,19 +66,31 @@ pub fn word<'t>(
 }
 
 // The level is looked up once, from the gate of all ticks.
-fn mix_word(channels: Channels, voice: Voice, gate: u32, table: &[u16; 32], wave: Wave) -> Mixed
+pub fn mix_word(channels: Channels, voice: Voice, gate: u32, table: &[u16; 32]) -> Mixed
     requires { ⌜ EnvelopeInRange (voice .generators .envelope) ⌝ }
     requires { ⌜ now table ≡ levels ⌝ }
-    requires { ⌜ wave ≡ waveOf (voice .generators .envelope .offset) ⌝ }
     ensures { λ r. ⌜ r ≡ mixedOf channels voice gate ⌝ }
 {
-    let generators = voice.generators;
-    let level = generators.envelope.level_in(wave);
-    let volumes = [voice.registers[8], voice.registers[9], voice.registers[10]];
-    let halves = [
+    let level = voice.generators.envelope.level();
+    let volumes = volumes_of(voice);
+    let halves = halves_of(voice.generators);
+    mixer::mix(channels, volumes, halves, level, gate, table)
+}
+
+// R8 to R10.
+pub fn volumes_of(voice: Voice) -> [u8; 3]
+    ensures { λ r. ⌜ r ≡ volumes voice ⌝ }
+{
+    [voice.registers[8], voice.registers[9], voice.registers[10]]
+}
+
+// Whether each channel is halved.
+pub fn halves_of(generators: Generators) -> [bool; 3]
+    ensures { λ r. ⌜ r ≡ halves generators ⌝ }
+{
+    [
         generators.a.is_half_amplitude(),
         generators.b.is_half_amplitude(),
         generators.c.is_half_amplitude(),
-    ];
-    mixer::mix(channels, volumes, halves, level, gate, table)
+    ]
 }

@@ -1,5 +1,6 @@
 -- Each by the law of its promise's form (`Laws`). Assumes nothing.
 use Rattle.laws_one_answer.specs.Parts.{Parts}
+use Rattle.clocking_run.proofs.Settled.{one-answer, one-buffer}
 use Rattle.laws_one_answer.proofs.Laws.{same, both, by-answer, by-buffer}
 
 pub parts : Parts
@@ -75,6 +76,13 @@ parts =
       drain = λ h x y. both (h .𝓤) (λ p q i. (same (p .small) (q .small) i, x .1));
       run-ticks = λ h x y. by-answer (h .𝓤);
       word = λ h x y. by-answer (h .𝓤);
+      sum-word = λ h x y. by-answer (h .𝓤);
+      sum-part = λ h x y. by-answer (h .𝓤);
+      mix-word = λ h x y. by-answer (h .𝓤);
+      volumes-of = λ h x y. by-answer (h .𝓤);
+      halves-of = λ h x y. by-answer (h .𝓤);
+      one-word = λ h x y. by-answer (h .𝓤);
+      run-words = λ h x y. both (h .𝓤) (λ p q i. (one-answer _ _ _ _ p q i, (tt, (tt, (tt, (tt, (one-buffer _ _ _ _ p q i, (tt, tt))))))));
       render = λ h x y. by-buffer (h .𝓤) (λ w. (tt, (w, tt)));
       clocks-no = λ h x y. by-answer (h .𝓤);
       master-no = λ h x y. by-answer (h .𝓤);

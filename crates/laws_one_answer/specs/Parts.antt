@@ -68,7 +68,14 @@ use Rattle.queue_flush.proofs.flush as queue-flush
 use Rattle.queue.proofs.Queue.emptied as queue-emptied
 use Rattle.queue_drain.proofs.drain
 use Rattle.clocking_ticks.proofs.run_ticks as run-ticks
+use Rattle.word_sum.proofs.word as sum-word
+use Rattle.word_sum.proofs.part as sum-part
 use Rattle.clocking_word.proofs.word
+use Rattle.clocking_word.proofs.mix_word as mix-word
+use Rattle.clocking_word.proofs.volumes_of as volumes-of
+use Rattle.clocking_word.proofs.halves_of as halves-of
+use Rattle.clocking_one.proofs.one_word as one-word
+use Rattle.clocking_run.proofs.run_words as run-words
 use Rattle.clocking_block.proofs.render
 use Rattle.clocks.proofs.clocks_no as clocks-no
 use Rattle.clocks.proofs.master_no as master-no
@@ -156,6 +163,13 @@ pub record Parts : Type 2 where
   pub drain : Settles drain.ended (λ M. drain.clauses)
   pub run-ticks : Settles run-ticks.ended (λ M. run-ticks.clauses)
   pub word : Settles word.ended (λ M. word.clauses)
+  pub sum-word : Settles sum-word.ended (λ M. sum-word.clauses)
+  pub sum-part : Settles sum-part.ended (λ M. sum-part.clauses)
+  pub mix-word : Settles mix-word.ended (λ M. mix-word.clauses)
+  pub volumes-of : Settles volumes-of.ended (λ M. volumes-of.clauses)
+  pub halves-of : Settles halves-of.ended (λ M. halves-of.clauses)
+  pub one-word : Settles one-word.ended (λ M. one-word.clauses)
+  pub run-words : Settles run-words.ended (λ M. run-words.clauses)
   pub render : Settles render.ended (λ M. render.clauses)
   pub clocks-no : Settles clocks-no.ended (λ M. clocks-no.clauses)
   pub master-no : Settles master-no.ended (λ M. master-no.clauses)

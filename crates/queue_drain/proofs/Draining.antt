@@ -6,33 +6,15 @@ use native.Mathlib.Omega.{arith}
 use lib.ListN.{getD, length}
 use Rattle.registers.specs.declared.Voice.{Voice}
 use Rattle.registers.specs.Registers.{applyRegister}
-use Rattle.queue.specs.declared.Write.{Write}
 use Rattle.queue.specs.declared.Queue.{Queue}
 use Rattle.queue.specs.Waiting.{writesFrom, waiting, due, dropped, ring, QueueInRange}
 use Rattle.registers.specs.Writes.{appliedInOrder}
 use Rattle.queue_flush.specs.Applied.{registerWrites}
 use Rattle.queue_drain.specs.Drain.{AfterDrain, drain, Drains}
-use Rattle.queue.proofs.Ring.{waiting-front}
 use Rattle.queue.proofs.Due.{due-on, due-stops}
 use Rattle.queue.proofs.Laws.{dropped-kept}
+use Rattle.queue_drain.proofs.Resting.{front, front-waits, drain-rests}
 use Rattle.queue_drain.proofs.Ruled.{waiting-drain}
-
--- the write at the head, as the code reads it
-abbrev pub front : Queue → Write
-front q = record { stamp = getD (q .stamps) (q .head) 0; register = getD (q .registers) (q .head) 0; value = getD (q .values) (q .head) 0 }
-
-front-waits : (q : Queue) → QueueInRange q → 0 < q .count → waiting q ≡ front q ∷ waiting (dropped 1 q)
-front-waits q h some =
-    let e : q .head % 256 ≡ q .head = omega (arith, h .head) in
-    waiting-front q some ∙ rw e
-
--- nothing due: the drain changes nothing
-drain-rests : (end : ℕ) (v : Voice) (q : Queue) → QueueInRange q → due end (waiting q) ≡ [] → drain end v q ≡ record { voice = v; queue = q }
-unfolding drain appliedInOrder registerWrites
-drain-rests end v q h e =
-    let a : (q .head + 0) % 256 ≡ q .head = omega (arith, h .head) in
-    let b : q .count - 0 ≡ q .count = omega arith in
-    rw e (rw (a, b))
 
 -- the front is due: a drain applies it and goes on behind it
 drain-on : (end : ℕ) (v : Voice) (q : Queue) → QueueInRange q → 0 < q .count → front q .stamp ≤ end

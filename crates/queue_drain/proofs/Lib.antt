@@ -1,3 +1,4 @@
 pub mod Ruled
+pub mod Resting
 pub mod Draining
 pub mod Volumes

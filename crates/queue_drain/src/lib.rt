@@ -20,11 +20,11 @@ struct Stored {
 
 // 01: "applied from the front while their stamp is at most that end; the first later one stops it". The ring is lent where it lies:
 // no slot is written, and the small state comes back.
-pub fn drain(
+pub fn drain<'t>(
     voice: Voice,
-    stamps: &[u64; 256],
-    registers: &[u8; 256],
-    values: &[u8; 256],
+    stamps: &'t [u64; 256],
+    registers: &'t [u8; 256],
+    values: &'t [u8; 256],
     head: usize,
     count: usize,
     end: u64,

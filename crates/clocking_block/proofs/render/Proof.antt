@@ -1,18 +1,20 @@
--- `clocking::render` meets its contract: the invariant and its steps are laws of `proofs/Filling.antt`. Assumes nothing.
+-- `clocking_block::render` meets its contract: the invariant and its steps are laws of `proofs/Filling.antt`. Assumes nothing.
 use Prim.Native.Nat.{_-_}
 use native.Mathlib.Omega.{arith}
 use lib.ListN.{length}
 use borrow.Author.Needs.{needs}
-use Rattle.clocking_block.proofs.Filling.{Filling, midway, filling-start, filling-on, filling-end, filled, next-soon}
+use Rattle.envelope_wave.proofs.Entries.{made}
+use Rattle.queue.specs.Waiting.{ring}
+use Rattle.clocking_block.proofs.Filling.{Filling, filling-start, next-soon, all-soon, drained-queue, due-ok, filling-on, further, filled, filling-kept, filling-none}
 use Rattle.clocking_block.proofs.render.Statement.{statement}
 use Rattle.clocking_block.proofs.render.Tie as tie
 
 abbrev Inv-loop : tie.InvT-loop
-Inv-loop out₀ table ring core₀ wave₀ head₀ count₀ ticks₀ i₀ out core wave head count ticks i =
-    Filling table wave (record { core = core₀; queue = ring }) (midway (ring .stamps) (ring .registers) (ring .values) core head count) out₀ out ticks i
+Inv-loop out₀ table ring₀ core₀ wave₀ head₀ count₀ gate₀ ticks₀ i₀ out core wave head count gate ticks i =
+    Filling table wave (record { core = core₀; queue = ring₀ }) core (ring (ring₀ .stamps) (ring₀ .registers) (ring₀ .values) head count) gate out₀ out ticks i
 
 abbrev μ-loop : tie.MeasureT-loop
-μ-loop out₀ table ring core₀ wave₀ head₀ count₀ ticks₀ i₀ out core wave head count ticks i = length out₀ - i
+μ-loop out₀ table ring₀ core₀ wave₀ head₀ count₀ gate₀ ticks₀ i₀ out core wave head count gate ticks i = length out₀ - i
 
 level-table-requires : tie.Need-level-table-requires Inv-loop μ-loop
 level-table-requires c κs = search needs
@@ -21,39 +23,61 @@ wave-of-requires : tie.Need-wave-of-requires Inv-loop μ-loop
 wave-of-requires c κs = search needs
 
 loop-holds : tie.Need-loop-holds Inv-loop μ-loop
-loop-holds c = search filling-start
+loop-holds c = let pre = c .before .before .before .before .before .pre in filling-start (c .before .before .before .level-table .ensures) (c .wave-of .ensures) (pre .0 .0) (pre .0 .1) (pre .1 .0) (pre .1 .1)
 
-word-requires : tie.Need-word-requires Inv-loop μ-loop
-word-requires c κs =
-    let inv = c .before .before .before .before .before .before .loop .inv in
-    (inv .core, (inv .queue, (search next-soon, (inv .table, inv .wave))))
+add-end : tie.Need-add-end Inv-loop μ-loop
+add-end c = record { fits = next-soon (c .before .before .loop .inv) (c .before .loop-test .taken) }
 
-mul-out : tie.Need-mul-out Inv-loop μ-loop
-mul-out c = search needs
+drain-requires : tie.Need-drain-requires Inv-loop μ-loop
+drain-requires c κs = c .before .before .before .before .before .before .loop .inv .queue
 
-slice-write-out : tie.Need-slice-write-out Inv-loop μ-loop
-slice-write-out c = search needs
+wave-after-requires : tie.Need-wave-after-requires Inv-loop μ-loop
+wave-after-requires c κs = made _ (c .before .before .before .before .before .before .before .before .loop .inv .wave)
 
-cast-ticks : tie.Need-cast-ticks Inv-loop μ-loop
-cast-ticks c = search needs
+next-due-requires : tie.Need-next-due-requires Inv-loop μ-loop
+next-due-requires c κs = drained-queue (c .before .before .before .before .before .before .before .before .before .before .before .loop .inv) (c .before .before .before .before .drain .ensures) .head
+
+run-words-requires : tie.Need-run-words-requires Inv-loop μ-loop
+run-words-requires c κs =
+    let l = c .before .before .before .before .before .before .before .before .before .before .before .before .before in
+    let inv = l .before .loop .inv in
+    (due-ok inv (c .before .before .before .before .before .before .before .drain .ensures), (inv .table, (c .before .before .before .before .before .wave-after .ensures, ((l .loop-test .taken, omega (arith, inv .long, inv .room)), all-soon inv))))
 
 add-ticks : tie.Need-add-ticks Inv-loop μ-loop
-add-ticks c = let l = c .before .before .before .before .before .before .before .before .before in omega (arith, c .struct-known .given, l .before .loop .inv .few, l .before .loop .inv .place, l .before .loop .inv .room, l .before .loop .inv .long, l .loop-test .taken)
-
-add-i : tie.Need-add-i Inv-loop μ-loop
-add-i c = let l = c .before .before .before .before .before .before .before .before .before in omega (arith, l .before .loop .inv .place, l .before .loop .inv .room)
+add-ticks c =
+    let inv = c .before .before .before .before .before .before .before .before .before .before .before .before .before .before .before .before .before .before .before .loop .inv in
+    let u = c .before .before .before .before .run-words .ensures in
+    let more = further inv (c .before .before .before .before .before .before .before .before .before .before .before .before .drain .ensures) (c .before .before .before .before .before .before .before .next-due .ensures) u in
+    omega (arith, inv .few, inv .place, inv .room, inv .long, u .room)
 
 loop-less : tie.Need-loop-less Inv-loop μ-loop
-loop-less c = let l = c .before .before .before .before .before .before .before .before .before in omega (arith, l .before .loop .inv .long, l .loop-test .taken)
+loop-less c =
+    let inv = c .before .before .before .before .before .before .before .before .before .before .before .before .before .before .before .before .before .before .before .loop .inv in
+    let u = c .before .before .before .before .run-words .ensures in
+    omega (arith, u .next, u .room, inv .long)
 
 loop-again : tie.Need-loop-again Inv-loop μ-loop
-loop-again c = let l = c .before .before .before .before .before .before .before .before .before in filling-on (l .before .loop .inv) (c .before .before .before .word .ensures) (l .loop-test .taken)
+loop-again c =
+    let inv = c .before .before .before .before .before .before .before .before .before .before .before .before .before .before .before .before .before .before .before .loop .inv in
+    filling-on inv (c .before .before .before .before .before .before .before .before .before .before .before .before .drain .ensures) (c .before .before .before .before .before .before .before .next-due .ensures) (c .before .before .before .before .run-words .ensures) (c .before .before .before .before .before .before .before .before .before .before .wave-after .ensures)
+
+mix-word-requires : tie.Need-mix-word-requires Inv-loop μ-loop
+mix-word-requires c κs = let inv = c .before .before .before .loop .inv in (inv .ok .voice .generators .envelope, inv .table)
 
 same-length : tie.Need-same-length Inv-loop μ-loop
-same-length c = c .before .loop .inv .long
+same-length c = c .before .before .before .before .before .loop .inv .long
 
 returns : tie.Need-returns Inv-loop μ-loop
-returns c = (filling-end (c .before .loop .inv) (c .loop-test .left), filled (c .before .loop .inv) (c .loop-test .left))
+returns c =
+    let inv = c .before .before .before .before .before .loop .inv in
+    let full = c .before .before .before .before .loop-test .left in
+    (filling-kept inv full (c .before .before .before .if1 .taken) (c .before .mix-word .ensures), filled inv full)
+
+same-length-2 : tie.Need-same-length-2 Inv-loop μ-loop
+same-length-2 c = c .before .before .loop .inv .long
+
+returns-2 : tie.Need-returns-2 Inv-loop μ-loop
+returns-2 c = let inv = c .before .before .loop .inv in (filling-none inv (c .before .loop-test .left) (c .if1 .left), filled inv (c .before .loop-test .left))
 
 pub render-spec : {M : Type 1} → statement M
 render-spec =
@@ -64,13 +88,16 @@ render-spec =
     level-table-requires
     wave-of-requires
     loop-holds
-    word-requires
-    mul-out
-    slice-write-out
-    cast-ticks
+    add-end
+    drain-requires
+    wave-after-requires
+    next-due-requires
+    run-words-requires
     add-ticks
-    add-i
     loop-less
     loop-again
+    mix-word-requires
     same-length
-    returns)
+    returns
+    same-length-2
+    returns-2)

@@ -1,5 +1,5 @@
 -- `clocking::word` meets its contract: `proofs/Wording.antt` makes the word of what its calls give. Assumes nothing.
-use Rattle.clocking_word.proofs.Wording.{drained-voice, run-in, run-wave, word-is}
+use Rattle.clocking_word.proofs.Wording.{drained-voice, run-in, word-is}
 use borrow.Author.Needs.{needs}
 use Rattle.clocking_word.proofs.word.Statement.{statement}
 use Rattle.clocking_word.proofs.word.Tie as tie
@@ -10,30 +10,25 @@ add-end c = search needs
 drain-requires : tie.Need-drain-requires
 drain-requires c κs = search needs
 
-wave-after-requires : tie.Need-wave-after-requires
-wave-after-requires c κs = search needs
-
 run-ticks-requires : tie.Need-run-ticks-requires
 run-ticks-requires c κs =
-    let drain = c .before .before in
+    let drain = c .before in
     let start = drain .before .before in
     (start .pre .0 .run, drained-voice _ _ (drain .drain .ensures .small) (start .pre .0) .generators)
 
 mix-word-requires : tie.Need-mix-word-requires
 mix-word-requires c κs =
     let ran = c .before in
-    let drain = ran .before .before .before in
+    let drain = ran .before .before in
     let start = drain .before .before in
-    let is = drain .drain .ensures .small in
-    (run-in _ _ is (ran .run-ticks .ensures) (start .pre .0), (start .pre .1 .1 .1 .0, run-wave _ _ _ _ _ (ran .run-ticks .ensures) (ran .before .wave-after .ensures)))
+    (run-in _ _ (drain .drain .ensures .small) (ran .run-ticks .ensures) (start .pre .0), start .pre .1 .1 .1)
 
 returns : tie.Need-returns
 returns c =
     let ran = c .before .before .before in
-    let is = ran .before .before .before .drain .ensures .small in
-    word-is _ _ is (ran .run-ticks .ensures) (c .before .mix-word .ensures) (run-wave _ _ _ _ _ (ran .run-ticks .ensures) (ran .before .wave-after .ensures))
+    word-is _ _ (ran .before .before .drain .ensures .small) (ran .run-ticks .ensures) (c .before .mix-word .ensures)
 
 pub word-spec : {M : Type 1} → statement M
 word-spec =
     tie.close
-    (tie.spec add-end drain-requires wave-after-requires run-ticks-requires mix-word-requires returns)
+    (tie.spec add-end drain-requires run-ticks-requires mix-word-requires returns)
