@@ -1,6 +1,6 @@
 //! Our side: the calls of the proved library, as a host makes them.
 
-use crate::{MASTER, Side};
+use crate::side::{MASTER, Side};
 use ym2149_proved::Chip;
 
 impl Side for Chip {
@@ -10,13 +10,51 @@ impl Side for Chip {
         chip
     }
 
-    fn queue(&mut self, stamp: u64, register: u8, value: u8) {
-        self.set_cpu_cycle(stamp).unwrap();
+    fn set_cycle(&mut self, cycle: u64) {
+        self.set_cpu_cycle(cycle).unwrap();
+    }
+
+    fn select(&mut self, register: u8) {
         self.write_port(0, register).unwrap();
+    }
+
+    fn data(&mut self, value: u8) {
         self.write_port(2, value).unwrap();
     }
 
-    fn render(&mut self, out: &mut [u16]) {
-        self.block(out).unwrap();
+    fn data_at_once(&mut self, value: u8) {
+        self.write_port_immediate(2, value).unwrap();
+    }
+
+    fn write_register(&mut self, register: u8, value: u8) {
+        Chip::write_register(self, register, value).unwrap();
+    }
+
+    fn flush(&mut self) {
+        self.flush_pending_writes().unwrap();
+    }
+
+    fn cycle(&self) -> u64 {
+        self.cpu_cycle().unwrap()
+    }
+
+    fn waiting(&self) -> usize {
+        self.pending_write_count().unwrap()
+    }
+
+    fn read_port(&self, port: u8) -> u8 {
+        Chip::read_port(self, port).unwrap()
+    }
+
+    fn read_register(&self, register: u8) -> u8 {
+        Chip::read_register(self, register).unwrap()
+    }
+
+    fn word(&mut self) -> u16 {
+        self.compute_next_sample().unwrap().word
+    }
+
+    fn block(&mut self, out: &mut [u16]) {
+        Chip::block(self, out).unwrap();
     }
 }
