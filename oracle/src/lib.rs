@@ -22,6 +22,7 @@ pub mod range;
 pub mod refusal;
 pub mod ring;
 pub mod script;
+pub mod script_cases;
 pub mod set;
 pub mod shape_cases;
 pub mod text;

@@ -1,12 +1,8 @@
 //! Scripts about the shape that a level is worked out from (02, request 06): R13 written within a block, at once and between blocks, and
 //! every place of every shape. `tests/wave.rs` holds the oracle to 01 on them; `compare` runs them on ours.
 
+use crate::script_cases::{Case, case, due};
 use std::fmt::Write;
-
-pub struct Case {
-    pub name: String,
-    pub script: String,
-}
 
 /// A rate at 2,000,000, with its CPU cycles to a word; a period of the envelope, and the words of a block.
 struct Pace {
@@ -53,10 +49,6 @@ fn pairs() -> impl Iterator<Item = (u8, u8)> {
     [0, 1, 2, 4, 8, 15].into_iter().flat_map(|bits| (0..16).map(move |from| (from, from ^ bits)))
 }
 
-fn case(name: impl Into<String>, script: String) -> Case {
-    Case { name: name.into(), script }
-}
-
 /// A chip of this pace; what is asked of it comes behind.
 fn chip(pace: &Pace, heard: &str) -> String {
     format!("new 2000000 {}\n{heard}write 11 {}\n", pace.rate, pace.period)
@@ -69,16 +61,11 @@ fn blocks(pace: &Pace, heard: &str, pairs: impl Iterator<Item = (u8, u8)>, queue
     for (from, to) in pairs {
         write!(script, "lent {}\nsync 0\nwrite 13 {from}\n", from % 2).unwrap();
         for (word, register, value) in queued(pace.words, from, to) {
-            script += &due(pace, word, register, value);
+            script += &due(pace.cycles, word, register, value);
         }
         write!(script, "block {0}\nblock {0}\nword\nword\n", pace.words).unwrap();
     }
     script
-}
-
-/// A write stamped at the end of a word, the first from cycle 0 on being word 0.
-fn due(pace: &Pace, word: u64, register: u8, value: u8) -> String {
-    format!("cycle {}\nport 0 {register}\nport 2 {value}\n", (word + 1) * pace.cycles)
 }
 
 pub fn all() -> Vec<Case> {
@@ -155,7 +142,7 @@ fn after_a_reset() -> String {
         writeln!(script, "lent {lent}").unwrap();
         for shape in 0..16 {
             write!(script, "write 13 {shape}\nblock 40\nreset\nwrite 0 2\nwrite 8 16\nword\nblock 32\n").unwrap();
-            write!(script, "sync 0\n{}block 32\nword\n", due(&PLAIN, 16, 13, shape)).unwrap();
+            write!(script, "sync 0\n{}block 32\nword\n", due(PLAIN.cycles, 16, 13, shape)).unwrap();
             write!(script, "reset\nwrite 0 2\nwrite 8 16\nwrite 13 {shape}\nword\nblock 32\n").unwrap();
         }
     }

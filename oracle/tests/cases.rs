@@ -1,39 +1,11 @@
 //! The oracle beside 01: what `cases.script` and `range.script` expect of their calls, and the dumps that 01 and its open points name.
 
+mod common;
+
+use common::check;
 use oracle::dump::play;
 use oracle::script::Bench;
 use oracle::tables::{ENV_DATA, MASKS, REG_MASK, SHAPE_TO_ENV, YM2149_LOG_LEVELS};
-
-/// Plays a script and holds each `# answer:` and `# state:` beside what the call above printed. Answers how many there were.
-fn check(script: &str, mut unsaid: impl FnMut(&str, &str, &str)) -> usize {
-    let mut bench = Bench::default();
-    let (mut printed, mut before) = (String::new(), String::new());
-    let mut checked = 0;
-    let lines: Vec<&str> = script.lines().collect();
-    for (place, line) in lines.iter().enumerate() {
-        let (answer, state) = printed.split_once('\n').unwrap_or_default();
-        if let Some(expected) = line.strip_prefix("# answer: ") {
-            assert_eq!(answer, expected, "line {}", place + 1);
-            checked += 1;
-        } else if let Some(fields) = line.strip_prefix("# state: ") {
-            let fields = fields.split(' ').filter(|field| !state.split_whitespace().any(|part| part == *field));
-            assert_eq!(fields.collect::<Vec<_>>(), [""; 0], "line {}: {state}", place + 1);
-            checked += 1;
-        } else if !line.starts_with('#') {
-            before = state.to_string();
-            printed.clear();
-            assert!(bench.line(line, &mut printed), "line {}", place + 1);
-            if bench.ring.fits() {
-                let queue: Vec<_> = (0..).map_while(|place| bench.chip.waiting(place)).collect();
-                assert_eq!(bench.ring.all(), queue, "line {}: the ring and the crate's queue", place + 1);
-            }
-            if !lines.get(place + 1).is_some_and(|next| next.starts_with("# answer: ")) {
-                unsaid(line, &before, &printed);
-            }
-        }
-    }
-    checked
-}
 
 #[test]
 fn cases_of_01() {

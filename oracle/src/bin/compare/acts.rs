@@ -6,7 +6,7 @@ use oracle::refusal::{self, ACCEPTED, BLOCK_MAX, QUEUE_MAX};
 impl Draw<'_> {
     // ---- registers ----
 
-    fn value(&mut self, register: u8) -> u8 {
+    pub fn value(&mut self, register: u8) -> u8 {
         let any = self.random.byte();
         match register {
             0 | 2 | 4 => self.random.pick(&[0, 1, 2, 3, 5, 255, any, any]),
@@ -35,24 +35,29 @@ impl Draw<'_> {
     /// A tone period about 1, by a call, a port or the queue.
     pub fn low(&mut self) {
         let register = self.random.below(6) as u8;
-        let (even, odd) = (self.random.pick(&[0, 0, 1, 1, 2, 255]), self.random.pick(&[0, 0, 0, 16, 1]));
-        let value = if register % 2 == 0 { even } else { odd };
+        let value = self.low_value(register);
         match self.random.below(4) {
-            way @ 0..=1 => {
-                let name = ["port", "port_now"][way as usize];
-                let (selecting, writing) = (self.selecting(), self.writing());
-                self.call(format!("{name} {selecting} {register}"));
-                self.call(format!("{name} {writing} {value}"));
-            }
+            way @ 0..=1 => self.by_ports(["port", "port_now"][way as usize], register, value),
             _ => self.call(format!("write {register} {value}")),
         }
     }
 
-    /// Registers of the envelope, and channels that follow it.
+    /// A byte of a tone period about 1.
+    pub fn low_value(&mut self, register: u8) -> u8 {
+        let (even, odd) = (self.random.pick(&[0, 0, 1, 1, 2, 255]), self.random.pick(&[0, 0, 0, 16, 1]));
+        if register % 2 == 0 { even } else { odd }
+    }
+
     pub fn shape(&mut self) {
+        let (register, value) = self.of_shape();
+        self.call(format!("write {register} {value}"));
+    }
+
+    /// Registers of the envelope, and channels that follow it.
+    pub fn of_shape(&mut self) -> (u8, u8) {
         let register = self.random.pick(&[8, 9, 10, 11, 11, 12, 13, 13, 13]);
         let value = if register < 11 { self.random.within(16, 31) as u8 } else { self.value(register) };
-        self.call(format!("write {register} {value}"));
+        (register, value)
     }
 
     pub fn load(&mut self) {
@@ -70,6 +75,13 @@ impl Draw<'_> {
     /// A port with bit 1 set, which writes.
     fn writing(&mut self) -> u8 {
         if self.random.one_in(2) { 2 } else { self.random.byte() | 2 }
+    }
+
+    /// A register's number, and then its value.
+    pub fn by_ports(&mut self, name: &str, register: u8, value: u8) {
+        let (selecting, writing) = (self.selecting(), self.writing());
+        self.call(format!("{name} {selecting} {register}"));
+        self.call(format!("{name} {writing} {value}"));
     }
 
     pub fn data(&mut self) {
@@ -120,8 +132,7 @@ impl Draw<'_> {
     pub fn turn(&mut self) {
         let (_, _, cycles) = self.bench.chip.clocks();
         let (each, turns) = (self.random.pick(&[1, 1, 1, 2, 4]), self.random.within(1, 256));
-        let far = (QUEUE_MAX as u64 + turns).saturating_mul(cycles);
-        if self.bench.chip.start().checked_add(far).is_none() || self.ticks_a_word() * turns > self.budget {
+        if !self.has_time_for(turns) {
             return;
         }
         self.call("flush".into());
@@ -234,6 +245,13 @@ impl Draw<'_> {
         let ticks = self.ticks_a_word();
         let room = self.budget / ticks;
         if room == 0 && self.random.one_in(2 + ticks / 30_000) { 1 } else { room }
+    }
+
+    /// Ticks for so many words, and cycles for those and a full queue's behind them.
+    pub fn has_time_for(&self, words: u64) -> bool {
+        let (_, _, cycles) = self.bench.chip.clocks();
+        let far = (QUEUE_MAX as u64 + words).saturating_mul(cycles);
+        self.bench.chip.start().checked_add(far).is_some() && self.ticks_a_word() * words <= self.budget
     }
 
     /// A block to be refused: a wrong side that renders it should come to its end.

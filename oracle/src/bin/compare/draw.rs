@@ -5,7 +5,7 @@ use crate::tally::Tally;
 use oracle::random::Random;
 use oracle::refusal::MASTER_MAX;
 use oracle::script::Bench;
-use oracle::wave_cases::Case;
+use oracle::script_cases::Case;
 
 /// Most clocks have a word of at most so many ticks, and slow ones of at most so many.
 const SOME_TICKS: u64 = 700;

@@ -9,7 +9,7 @@ use crate::{BATCH, Options, SHRINKING};
 use oracle::random::Random;
 use oracle::refusal::{self, ACCEPTED};
 use oracle::script::Bench;
-use oracle::wave_cases;
+use oracle::script_cases;
 use std::time::Instant;
 
 /// Ticks that a script being shrunk may always run.
@@ -67,7 +67,7 @@ impl Scripts {
 
     /// The cases, a process to each, up to the first difference where that is enough.
     pub fn compare_cases(&mut self, path: &str, first: bool) {
-        for case in wave_cases::all() {
+        for case in script_cases::all() {
             if !(first && self.differences > 0) {
                 self.compare(path, &[draw::case(case)], first);
             }
