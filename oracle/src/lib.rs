@@ -15,6 +15,7 @@ pub mod tables;
 pub mod call;
 pub mod capture;
 pub mod capture_cases;
+pub mod due_cases;
 pub mod dump;
 pub mod lines;
 pub mod random;

@@ -52,13 +52,15 @@ pub fn script(random: &mut Random, tally: &mut Tally, begin_on_default: bool) ->
     drawn(None, draw.script, draw.printed, draw.bench)
 }
 
-/// A case in the place of a drawn script.
+/// A case in the place of a drawn script: its calls, and not what it says of them.
 pub fn case(case: Case) -> Drawn {
-    let (mut bench, mut printed) = (Bench::default(), String::new());
-    for line in case.script.lines() {
+    let (mut bench, mut script, mut printed) = (Bench::default(), String::new(), String::new());
+    for line in case.script.lines().filter(|line| !line.starts_with('#')) {
         assert!(bench.line(line, &mut printed), "{}: {line}", case.name);
+        script.push_str(line);
+        script.push('\n');
     }
-    drawn(Some(case.name), case.script, printed, bench)
+    drawn(Some(case.name), script, printed, bench)
 }
 
 fn drawn(case: Option<String>, script: String, printed: String, bench: Bench) -> Drawn {
@@ -110,6 +112,7 @@ impl Draw<'_> {
             Refused => self.refused(),
             Lent => self.lent(),
             Climb => self.climb(),
+            Busy => self.busy(),
             Set => self.set(),
         }
     }

@@ -2,6 +2,7 @@
 
 use crate::draw::Draw;
 use oracle::refusal::MASTER_MAX;
+use oracle::ring::SLOTS;
 use oracle::set::{FIELDS, Field};
 use oracle::tables::REG_MASK;
 
@@ -10,6 +11,9 @@ const ASKED: u64 = 6;
 
 impl Draw<'_> {
     pub fn set(&mut self) {
+        if self.random.one_in(8) {
+            return self.set_slot();
+        }
         let (name, field, (least, most)) = self.random.pick(&FIELDS);
         let before = self.bench.held(field);
         let value = self.about(field).clamp(least, most);
@@ -17,13 +21,39 @@ impl Draw<'_> {
         if self.bench.in_range() {
             return;
         }
-        for _ in 0..self.random.within(1, ASKED) {
-            let line = self.any_call();
-            self.call(line);
-        }
+        self.ask_of_it();
         match self.random.below(4) {
             0 => self.make(),
             _ => self.call(format!("set {name} {before}")),
+        }
+    }
+
+    /// The register of any slot, which is then the last that waits, or among them, or the first that does not; and all of it back.
+    fn set_slot(&mut self) {
+        let count = self.bench.ring.count;
+        let place = self.random.within(1, SLOTS);
+        let among = self.random.within(place, SLOTS);
+        let waiting = self.random.pick(&[place - 1, place, among, SLOTS]);
+        let register = self.about(Field::WaitingRegister);
+        self.call(format!("set count {place}"));
+        let before = self.bench.ring.last_register();
+        self.call(format!("set waiting_register {register}"));
+        self.call(format!("set count {waiting}"));
+        self.ask_of_it();
+        self.call(format!("set count {place}"));
+        self.call(format!("set waiting_register {before}"));
+        self.call(format!("set count {count}"));
+    }
+
+    /// Some calls that leave the record as it is: of every kind where all are refused, and else of those that read.
+    fn ask_of_it(&mut self) {
+        for _ in 0..self.random.within(1, ASKED) {
+            if self.bench.in_range() {
+                self.read();
+            } else {
+                let line = self.any_call();
+                self.call(line);
+            }
         }
     }
 

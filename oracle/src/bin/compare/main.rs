@@ -1,9 +1,11 @@
 //! Draws scripts, dumps and captures, runs the oracle on them here and other programs beside it, and compares every line.
 
 mod acts;
+mod busy;
 mod captures;
 mod damage;
 mod draw;
+mod due;
 mod dumps;
 mod fields;
 mod moods;

@@ -28,6 +28,7 @@ pub enum Act {
     Refused,
     Lent,
     Climb,
+    Busy,
     Set,
 }
 
@@ -46,7 +47,7 @@ const fn mood(calls: u64, acts: &'static [(u64, Act)]) -> Mood {
 
 /// Each as often as its weight. The first has everything.
 #[rustfmt::skip]
-pub const MOODS: [(u64, Mood); 9] = [
+pub const MOODS: [(u64, Mood); 10] = [
     (6, mood(4, &[
         (9, Register), (2, Low), (2, Shape), (1, Load), (6, Data), (2, Now), (2, Cycle), (2, Sync), (1, End),
         (1, Flush), (3, Irq), (1, Trigger), (2, Mute), (3, Drum), (6, Word), (9, Block), (5, Read), (1, Reset),
@@ -64,6 +65,11 @@ pub const MOODS: [(u64, Mood); 9] = [
     // A queue held full, long enough for its room to be used again.
     (2, mood(500, &[
         (2, Fill), (3, Turn), (24, Data), (3, Cycle), (1, Sync), (1, Flush), (12, Word), (2, Block), (6, Read), (1, Reset),
+    ])),
+    // Many writes due in one word, in the IRQ and outside it.
+    (5, mood(100, &[
+        (12, Busy), (4, Register), (1, Shape), (2, Load), (2, Data), (1, Flush), (3, Irq), (1, Trigger), (3, Mute), (3, Drum),
+        (1, Word), (2, Block), (1, Reset), (2, Lent), (1, Set),
     ])),
     // Periods 0 and 1 inside and outside the IRQ.
     (4, mood(4, &[

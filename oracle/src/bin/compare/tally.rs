@@ -1,5 +1,6 @@
 //! What was drawn, counted: `--count` prints it.
 
+use crate::due::{self, KINDS};
 use oracle::call::{self, Call};
 use oracle::capture;
 use oracle::dump::{play, read};
@@ -15,7 +16,8 @@ const TICKS: [u64; 6] = [1, 10, 100, 700, 26_843, u64::MAX];
 #[derive(Default)]
 pub struct Tally {
     counts: BTreeMap<&'static str, u64>,
-    seen: BTreeMap<&'static str, BTreeSet<u64>>,
+    /// Of so many: which were seen.
+    seen: BTreeMap<(&'static str, u64), BTreeSet<u64>>,
     answers: BTreeMap<u8, u64>,
     captures_refused: BTreeMap<u8, u64>,
     ticks: [u64; TICKS.len()],
@@ -30,7 +32,11 @@ impl Tally {
     }
 
     fn see(&mut self, what: &'static str, place: u64) {
-        self.seen.entry(what).or_default().insert(place);
+        self.see_of(256, what, place);
+    }
+
+    fn see_of(&mut self, of: u64, what: &'static str, place: u64) {
+        self.seen.entry((what, of)).or_default().insert(place);
     }
 
     pub fn script(&mut self) {
@@ -82,6 +88,7 @@ impl Tally {
         let ticks = internal.div_ceil(rate) as u64;
         let place = TICKS.iter().position(|most| ticks <= *most).unwrap();
         self.ticks[place] += 1;
+        self.due(length, bench);
         // The front write beside the ends of the block's words.
         let Some((stamp, _, _)) = bench.chip.waiting(0) else { return };
         let Some(after) = stamp.checked_sub(bench.chip.start()) else { return };
@@ -95,6 +102,14 @@ impl Tally {
                 }
                 _ => {}
             }
+        }
+    }
+
+    fn due(&mut self, length: u64, bench: &Bench) {
+        let registers = if bench.chip.irq() { "registers due in the IRQ" } else { "registers due outside the IRQ" };
+        for due in due::words(bench, length) {
+            due.writes.iter().for_each(|(register, _)| self.see_of(16, registers, *register as u64));
+            KINDS.iter().filter(|(_, is_so)| is_so(&due, bench)).for_each(|(what, _)| self.count(what));
         }
     }
 
@@ -197,8 +212,8 @@ impl Tally {
     }
 
     pub fn print(&self) {
-        for (what, seen) in &self.seen {
-            println!("{:>9} of 256 {what}", seen.len());
+        for ((what, of), seen) in &self.seen {
+            println!("{:>9} of {of} {what}", seen.len());
         }
         for (what, count) in &self.counts {
             println!("{count:>9} {what}");
