@@ -8,6 +8,7 @@ use Rattle.laws.proofs.Tests.{by-order}
 use Rattle.chip.specs.declared.Core.{Core}
 use Rattle.clocking_run.specs.declared.Run.{Run}
 use Rattle.clocking_run.specs.Run.{coreAfter, nextTicks, ticksFrom, wordsFrom, Runs}
+
 module _ (c : Core) (due first : ℕ) (out₀ : List ℕ) where
   -- no run goes on where another stops
   no-longer : {a b : List ℕ} {r s : Run} (u : Runs c due first out₀ a r) (v : Runs c due first out₀ b s) → v .more ≤ u .more

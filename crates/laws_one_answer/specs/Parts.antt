@@ -60,6 +60,13 @@ use Rattle.mixer.proofs.mix as channels-mix
 use Rattle.all_registers.proofs.new as voice-new
 use Rattle.all_registers.proofs.reset as voice-reset
 use Rattle.registers.proofs.Voice.apply_register as voice-apply-register
+use Rattle.registers.proofs.joined
+use Rattle.registers.proofs.masked_byte as masked-byte
+use Rattle.stored_bytes.proofs.mark
+use Rattle.stored_bytes.proofs.put
+use Rattle.settling.proofs.settings_of as settings-of
+use Rattle.settling.proofs.settled
+use Rattle.settling.proofs.with_settings as with-settings
 use Rattle.all_registers.proofs.load_registers as voice-load-registers
 use Rattle.queue.proofs.Queue.new as queue-new
 use Rattle.queue.proofs.Queue.in_range as queue-in-range
@@ -154,6 +161,13 @@ pub record Parts : Type 2 where
   pub voice-new : Settles voice-new.ended (λ M. voice-new.clauses)
   pub voice-reset : Settles voice-reset.ended (λ M. voice-reset.clauses)
   pub voice-apply-register : Settles voice-apply-register.ended (λ M. voice-apply-register.clauses)
+  pub joined : Settles joined.ended (λ M. joined.clauses)
+  pub masked-byte : Settles masked-byte.ended (λ M. masked-byte.clauses)
+  pub mark : Settles mark.ended (λ M. mark.clauses)
+  pub put : Settles put.ended (λ M. put.clauses)
+  pub settings-of : Settles settings-of.ended (λ M. settings-of.clauses)
+  pub settled : Settles settled.ended (λ M. settled.clauses)
+  pub with-settings : Settles with-settings.ended (λ M. with-settings.clauses)
   pub voice-load-registers : Settles voice-load-registers.ended (λ M. voice-load-registers.clauses)
   pub queue-new : Settles queue-new.ended (λ M. queue-new.clauses)
   pub queue-in-range : Settles queue-in-range.ended (λ M. queue-in-range.clauses)

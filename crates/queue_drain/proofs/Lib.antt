@@ -1,4 +1,5 @@
 pub mod Ruled
 pub mod Resting
 pub mod Draining
-pub mod Volumes
+pub mod Storing
+pub mod Kept

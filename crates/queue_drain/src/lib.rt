@@ -1,8 +1,10 @@
 // What is due of the waiting writes, applied. 01, "One tick, one word".
 ghost use Rattle.queue.specs.Waiting.{ring, QueueInRange};
 ghost use Rattle.queue_drain.specs.Drain.{Drains};
-ghost use Rattle.queue_drain.specs.Volumes.{Stores};
+ghost use Rattle.queue_drain.specs.Due.{drainedWith, Stores};
+use registers::REGISTERS;
 use registers::Voice;
+use settling::Settings;
 
 // What a drain leaves: the ring's slots are as they were.
 pub struct Drained {
@@ -11,15 +13,25 @@ pub struct Drained {
     pub count: usize,
 }
 
-// The stored bytes after some writes to the volumes, and the ring without them.
+// What the due writes leave of a voice, its bytes and settings; and the ring without them.
+struct Due {
+    bytes: [u8; 14],
+    settings: Settings,
+    head: usize,
+    count: usize,
+}
+
+// The stored bytes after the due writes, and a mark for each register written; and the ring without them.
 struct Stored {
     bytes: [u8; 14],
+    marks: u32,
     head: usize,
     count: usize,
 }
 
 // 01: "applied from the front while their stamp is at most that end; the first later one stops it". The ring is lent where it lies:
-// no slot is written, and the small state comes back.
+// no slot is written, and the small state comes back. There is one way out, also where nothing is due: with a second one the generators would
+// leave the machine's registers.
 pub fn drain<'t>(
     voice: Voice,
     stamps: &'t [u64; 256],
@@ -32,45 +44,48 @@ pub fn drain<'t>(
     requires { ⌜ QueueInRange (ring (now stamps) (now registers) (now values) head count) ⌝ }
     ensures { λ r. ⌜ Drains end voice (ring (now (stamps .entry)) (now (registers .entry)) (now (values .entry)) head count) r ⌝ }
 {
-    // nothing due is the usual case, and a volume the next: then the generators need not leave the machine's registers
-    if count == 0 {
-        return Drained { voice, head, count };
+    let due = due_writes(voice, stamps, registers, values, head, count, end);
+    let bytes = due.bytes;
+    let settings = due.settings;
+    let after = settling::with_settings(bytes, settings, voice);
+    Drained {
+        voice: after,
+        head: due.head,
+        count: due.count,
     }
-    if stamps[head] > end {
-        return Drained { voice, head, count };
-    }
-    let before = voice.registers;
-    let stored = drain_volumes(before, stamps, registers, values, head, count, end);
-    let bytes = stored.bytes;
-    let next = stored.head;
-    let more = stored.count;
-    let generators = voice.generators;
-    let gates = voice.gates;
-    let after = Voice {
-        registers: bytes,
-        generators,
-        gates,
-        irq: voice.irq,
-    };
-    if more == 0 {
-        return Drained {
-            voice: after,
-            head: next,
-            count: more,
-        };
-    }
-    if stamps[next] > end {
-        return Drained {
-            voice: after,
-            head: next,
-            count: more,
-        };
-    }
-    drain_due(after, stamps, registers, values, next, more, end)
 }
 
-// What is due to R8, R9 and R10, up to the first write to another register: only bytes change, and the generators stay where they are.
-fn drain_volumes(
+// 01: "mark a pending flip if the period is now at most 1 and the IRQ flag is on". So where it is on each write counts by itself.
+fn due_writes(
+    voice: Voice,
+    stamps: &[u64; 256],
+    registers: &[u8; 256],
+    values: &[u8; 256],
+    head: usize,
+    count: usize,
+    end: u64,
+) -> Due
+    requires { ⌜ QueueInRange (ring (now stamps) (now registers) (now values) head count) ⌝ }
+    ensures { λ r. ⌜ Drains end voice (ring (now (stamps .entry)) (now (registers .entry)) (now (values .entry)) head count) (drainedWith voice r) ⌝ }
+{
+    if voice.irq {
+        return one_by_one(voice, stamps, registers, values, head, count, end);
+    }
+    let bytes = voice.registers;
+    let stored = store_due(bytes, stamps, registers, values, head, count, end);
+    let before = settling::settings_of(voice.generators, voice.gates);
+    let bytes = stored.bytes;
+    let settings = settling::settled(bytes, stored.marks, before);
+    Due {
+        bytes,
+        settings,
+        head: stored.head,
+        count: stored.count,
+    }
+}
+
+// Each due write stored; what they set is left to do.
+fn store_due(
     bytes: [u8; 14],
     stamps: &[u64; 256],
     registers: &[u8; 256],
@@ -83,40 +98,57 @@ fn drain_volumes(
     ensures { λ r. ⌜ Stores end bytes (ring (now (stamps .entry)) (now (registers .entry)) (now (values .entry)) head count) r ⌝ }
 {
     let mut kept = bytes;
+    let mut marks: u32 = 0;
     let mut slot = head;
     let mut rest = count;
     while rest > 0 {
         if stamps[slot] > end {
             return Stored {
                 bytes: kept,
+                marks,
                 head: slot,
                 count: rest,
             };
         }
         let register = registers[slot];
-        if register < 8 {
-            return Stored {
-                bytes: kept,
-                head: slot,
-                count: rest,
-            };
+        if register < REGISTERS {
+            let byte = registers::masked_byte(register, values[slot]);
+            let after = stored_bytes::put(kept, register, byte);
+            kept = after;
+            marks = stored_bytes::mark(marks, register);
         }
-        if register > 10 {
-            return Stored {
-                bytes: kept,
-                head: slot,
-                count: rest,
-            };
-        }
-        let place = register as usize;
-        kept[place] = values[slot] & 0x1f;
         slot = (slot + 1) % 256;
         rest = rest - 1;
     }
     Stored {
         bytes: kept,
+        marks,
         head: slot,
         count: rest,
+    }
+}
+
+fn one_by_one(
+    voice: Voice,
+    stamps: &[u64; 256],
+    registers: &[u8; 256],
+    values: &[u8; 256],
+    head: usize,
+    count: usize,
+    end: u64,
+) -> Due
+    requires { ⌜ QueueInRange (ring (now stamps) (now registers) (now values) head count) ⌝ }
+    ensures { λ r. ⌜ Drains end voice (ring (now (stamps .entry)) (now (registers .entry)) (now (values .entry)) head count) (drainedWith voice r) ⌝ }
+{
+    let drained = drain_due(voice, stamps, registers, values, head, count, end);
+    let v = drained.voice;
+    let bytes = v.registers;
+    let settings = settling::settings_of(v.generators, v.gates);
+    Due {
+        bytes,
+        settings,
+        head: drained.head,
+        count: drained.count,
     }
 }
 

@@ -1,5 +1,6 @@
 -- What a register write does. 01, "Registers and ports". Assumes nothing.
 use mathlib.Core.Bool.{cond}
+use mathlib.Core.List.{List}
 use Prim.Native.Nat.{ℕ, _+_, _*_, _/_}
 use lib.Bits.{bitAnd}
 use lib.Dec.{leb, eqb}
@@ -20,8 +21,11 @@ abbrev pub byteAt : ℕ → Voice → ℕ
 byteAt register v = getD (v .registers) register 0
 
 -- a period in two registers, the low byte first
+abbrev pub pairIn : ℕ → List ℕ → ℕ
+pairIn low bytes = getD bytes low 0 + 256 * getD bytes (low + 1) 0
+
 unfoldable pub pairAt : ℕ → Voice → ℕ
-pairAt low v = byteAt low v + 256 * byteAt (low + 1) v
+pairAt low v = pairIn low (v .registers)
 
 abbrev pub withGenerators : Generators → Voice → Voice
 withGenerators g v = record { registers = v .registers; generators = g; gates = v .gates; irq = v .irq }

@@ -110,13 +110,15 @@ impl Voice {
     }
 }
 
-fn joined(low: u8, high: u8) -> u16
+// A period of two bytes.
+pub fn joined(low: u8, high: u8) -> u16
     ensures { λ r. ⌜ r ≡ low + 256 * high ⌝ }
 {
     low as u16 + 256 * (high as u16)
 }
 
-fn masked_byte(register: u8, value: u8) -> u8
+// What a register stores of a byte.
+pub fn masked_byte(register: u8, value: u8) -> u8
     requires { ⌜ register < 14 ⌝ }
     ensures { λ r. ⌜ r ≡ masked register value ⌝ }
 {

@@ -1,13 +1,11 @@
-// The small tables of tables.rs, each behind a lookup that is promised by its rule in 01. (The envelope's entries are worked out, by `envelope_shapes`.)
+// The small tables of tables.rs, each behind a lookup that is promised by its rule in 01. (The envelope's entries are worked out, by `envelope_shapes`; a register's mask is, from its width.)
 ghost use mathlib.Core.Path.{_≡_};
 ghost use Prim.Native.Nat.{_%_, _<_};
 ghost use Rattle.tables.specs.Masks.{registerMask, gateMask};
 ghost use Rattle.tables.specs.Levels.{levels, levelOf};
 
-#[rattlefmt::skip]
-const REG_MASK: [u8; 14] = [
-    0xff, 0x0f, 0xff, 0x0f, 0xff, 0x0f, 0x1f, 0x3f, 0x1f, 0x1f, 0x1f, 0xff, 0xff, 0x0f,
-];
+// How many bits each register stores, a hex digit to each, R0 in the lowest: a table of masks would be rebuilt at every write.
+const WIDTHS: u64 = 0x48_8555_6548_4848;
 
 #[rattlefmt::skip]
 const MASKS: [u32; 8] = [
@@ -25,7 +23,8 @@ pub fn register_mask(register: usize) -> u8
     requires { ⌜ register < 14 ⌝ }
     ensures { λ r. ⌜ r ≡ registerMask register ⌝ }
 {
-    REG_MASK[register]
+    let width = (WIDTHS >> (4 * register as u64)) % 16;
+    ((1u32 << (width as u32)) - 1) as u8
 }
 
 // The mask bits of three gate bits, A first; bits above them do not count.
