@@ -65,8 +65,9 @@ pub fn set_cpu_cycle(chip: &mut Chip, cycle: u64) -> u8
     ensures { λ r. ⌜ (r ≡ setCpuCycle cycle (now (chip .entry)) .no)
         × (now (chip .exit) ≡ setCpuCycle cycle (now (chip .entry)) .chip) ⌝ }
 {
-    let r = calls_cycles::set_cpu_cycle(*chip, cycle);
-    *chip = r.chip;
+    let ok = lent_chip::in_range(&*chip);
+    let r = steps_cycles::set_cpu_cycle(ok, chip.core.stamp, cycle);
+    chip.core.stamp = r.stamp;
     r.no
 }
 

@@ -45,7 +45,7 @@ use denote.Triple.Walked.{says, Stays, stay-none, hasOf, walkOf, goes-none, ends
 use denote.Exit.{yes}
 use Rattle.laws.proofs.Flat.{Lent, lent-row, lent-mir, Flat, row, val-of, vals as answers, Reply, reply, reply-row, reply-mir, reply-laws}
 use Rattle.laws.proofs.Args.{slots, Arg, get, spells, tells, after, copies, locs, Blocks, envs, spot-at, next-at, after-at, from-at, alloc-all, PassedArgs, stays, go, fins, fits, values, Known, cross, get-cross, to-owns, to-has, free-all, pass-all, opds-second}
-use Rattle.cabinet_host.proofs.Owning.{val, vals, lay, lift, last, silent}
+use Rattle.lent_walks.proofs.Owning.{val, vals, lay, lift, last, silent}
 
 module _ (Xs : List Flat) {K : Lent} {Q : Flat} (P : Reply K Q) where
   -- ---- the two signatures, what is had of the parameters at exit, and the code

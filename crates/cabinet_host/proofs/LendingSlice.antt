@@ -44,7 +44,7 @@ use denote.Triple.Clauses.{Ended, Clauses, Lasts, ensured, lasts, closing}
 use denote.Triple.Walked.{says, Stays, stay-none, gave-slice, walkOf, goes-none, goes-gave-slice, ends-at, walked, walk-meets}
 use denote.Exit.{yes}
 use Rattle.laws.proofs.Flat.{Lent, lent-row, lent-mir, Flat, row, val-of, vals as answers, Reply, reply, reply-row, reply-mir, reply-laws}
-use Rattle.cabinet_host.proofs.Owning.{val, vals, lay, lift, last, silent}
+use Rattle.lent_walks.proofs.Owning.{val, vals, lay, lift, last, silent}
 
 module _ {K : Lent} {Q : Flat} (P : Reply K Q) where
   -- ---- the two signatures, what is had of the parameters at exit, and the code

@@ -1,4 +1,3 @@
-pub mod Owning
 pub mod Lending
 pub mod LendingSlice
 pub mod Showing

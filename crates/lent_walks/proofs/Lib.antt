@@ -1,0 +1,4 @@
+pub mod Owning
+pub mod Parts
+pub mod Stored
+pub mod Read
