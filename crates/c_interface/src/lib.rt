@@ -103,8 +103,19 @@ pub extern "C" fn ym2149_set_cpu_cycle(chip: &mut Record, cycle: u64) -> u8
     ensures { λ r. ⌜ (r ≡ onRecord (setCpuCycle cycle) (now (chip .entry)) .no)
         × (now (chip .exit) ≡ onRecord (setCpuCycle cycle) (now (chip .entry)) .chip) ⌝ }
 {
-    let r = c_calls::set_cpu_cycle(*chip, cycle);
-    *chip = r.chip;
+    let ok = lent_record::in_range(&*chip);
+    let r = c_steps::set_cpu_cycle(
+        ok,
+        chip.core.a.drum,
+        chip.core.b.drum,
+        chip.core.c.drum,
+        chip.core.stamp,
+        cycle,
+    );
+    chip.core.a.drum = r.a;
+    chip.core.b.drum = r.b;
+    chip.core.c.drum = r.c;
+    chip.core.stamp = r.stamp;
     r.no
 }
 

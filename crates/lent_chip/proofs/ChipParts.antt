@@ -10,7 +10,7 @@ use denote.Struct.Struct.{AreAll}
 use denote.Struct.Declared.{fields}
 use denote.Struct.Laws as LL
 use Rattle.laws.proofs.Flat.{Flat, structf, u8f, u64f}
-use Rattle.lent_walks.proofs.Parts.{Part, IsOne, whole-val, offset, with-inner}
+use Rattle.lent_walks.proofs.Parts.{Part, IsOne, whole-val, offset, with-path}
 use Rattle.chip.specs.declared.Chip.{Chip}
 use Rattle.chip.specs.declared.Core.{Core}
 use Rattle.registers.proofs.Voice as voice′
@@ -46,7 +46,7 @@ voice = record {
   at = λ o. (o + offset chip-laws.mir 0) + offset core-laws.mir 1;
   of = λ c. c .core .voice;
   put = λ y c. withVoice y c;
-  with = λ u c. with-inner 0 1 (whole-val chip c) u;
+  with = λ u c. with-path (0 ∷ 1 ∷ []) (whole-val chip c) u;
   with-put = λ y c. refl;
   of-is = λ c is. core-are c is .1 .0;
   put-is = λ y c y-is is. let k = core-are c is in core-is c ((withVoice y c) .core) is (k .0, (y-is, (k .1 .1 .0, (k .1 .1 .1 .0, (k .1 .1 .1 .1 .0, (k .1 .1 .1 .1 .1 .0, (k .1 .1 .1 .1 .1 .1 .0, tt)))))));
@@ -62,7 +62,7 @@ channels = record {
   at = λ o. (o + offset chip-laws.mir 0) + offset core-laws.mir 2;
   of = λ c. c .core .channels;
   put = λ y c. withChannels y c;
-  with = λ u c. with-inner 0 2 (whole-val chip c) u;
+  with = λ u c. with-path (0 ∷ 2 ∷ []) (whole-val chip c) u;
   with-put = λ y c. refl;
   of-is = λ c is. core-are c is .1 .1 .0;
   put-is = λ y c y-is is. let k = core-are c is in core-is c ((withChannels y c) .core) is (k .0, (k .1 .0, (y-is, (k .1 .1 .1 .0, (k .1 .1 .1 .1 .0, (k .1 .1 .1 .1 .1 .0, (k .1 .1 .1 .1 .1 .1 .0, tt)))))));
@@ -78,7 +78,7 @@ selected = record {
   at = λ o. (o + offset chip-laws.mir 0) + offset core-laws.mir 3;
   of = λ c. c .core .selected;
   put = λ y c. withSelection y c;
-  with = λ u c. with-inner 0 3 (whole-val chip c) u;
+  with = λ u c. with-path (0 ∷ 3 ∷ []) (whole-val chip c) u;
   with-put = λ y c. refl;
   of-is = λ c is. core-are c is .1 .1 .1 .0;
   put-is = λ y c y-is is. let k = core-are c is in core-is c ((withSelection y c) .core) is (k .0, (k .1 .0, (k .1 .1 .0, (y-is, (k .1 .1 .1 .1 .0, (k .1 .1 .1 .1 .1 .0, (k .1 .1 .1 .1 .1 .1 .0, tt)))))));
@@ -94,7 +94,7 @@ stamp = record {
   at = λ o. (o + offset chip-laws.mir 0) + offset core-laws.mir 5;
   of = λ c. c .core .stamp;
   put = λ y c. withTimes y (c .core .start) c;
-  with = λ u c. with-inner 0 5 (whole-val chip c) u;
+  with = λ u c. with-path (0 ∷ 5 ∷ []) (whole-val chip c) u;
   with-put = λ y c. refl;
   of-is = λ c is. core-are c is .1 .1 .1 .1 .1 .0;
   put-is = λ y c y-is is. let k = core-are c is in core-is c ((withTimes y (c .core .start) c) .core) is (k .0, (k .1 .0, (k .1 .1 .0, (k .1 .1 .1 .0, (k .1 .1 .1 .1 .0, (y-is, (k .1 .1 .1 .1 .1 .1 .0, tt)))))));
@@ -110,7 +110,7 @@ start = record {
   at = λ o. (o + offset chip-laws.mir 0) + offset core-laws.mir 6;
   of = λ c. c .core .start;
   put = λ y c. withTimes (c .core .stamp) y c;
-  with = λ u c. with-inner 0 6 (whole-val chip c) u;
+  with = λ u c. with-path (0 ∷ 6 ∷ []) (whole-val chip c) u;
   with-put = λ y c. refl;
   of-is = λ c is. core-are c is .1 .1 .1 .1 .1 .1 .0;
   put-is = λ y c y-is is. let k = core-are c is in core-is c ((withTimes (c .core .stamp) y c) .core) is (k .0, (k .1 .0, (k .1 .1 .0, (k .1 .1 .1 .0, (k .1 .1 .1 .1 .0, (k .1 .1 .1 .1 .1 .0, (y-is, tt)))))));

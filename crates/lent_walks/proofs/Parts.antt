@@ -51,12 +51,13 @@ offset-of (some f) = f .1
 abbrev pub offset : Ty → ℕ → ℕ
 offset τ k = offset-of (fieldOf τ k)
 
--- a struct's machine value with u for its field k, and with u for field j of its field k
+-- a struct's machine value with u for its field k, and with u at the end of a way of such fields
 abbrev pub with-field : ℕ → Val → Val → Val
 with-field k v u = vstruct (setV (fields-of v) k u)
 
-abbrev pub with-inner : ℕ → ℕ → Val → Val → Val
-with-inner k j v u = with-field k v (with-field j (getV (fields-of v) k) u)
+abbrev pub with-path : List ℕ → Val → Val → Val
+with-path [] v u = u
+with-path (k ∷ ks) v u = with-field k v (with-path ks (getV (fields-of v) k) u)
 
 -- the machine value of a K
 abbrev pub whole-val : (K : Lent) → K .T .D → Val

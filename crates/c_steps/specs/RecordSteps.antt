@@ -1,0 +1,16 @@
+-- What the calls change of a lent record, and its drums with it. 01, "Numbers a call can answer". Assumes nothing.
+use Prim.Native.Nat.{ℕ}
+use mathlib.Core.Bool.{cond}
+use lib.Dec.{eqb}
+use Rattle.refusals.specs.Numbers.{accepted}
+use Rattle.c_record.specs.declared.RecordDrum.{RecordDrum}
+use Rattle.c_record.specs.Record.{drumOf, recordDrum}
+use Rattle.steps_cycles.specs.declared.Stamped.{Stamped}
+use Rattle.c_steps.specs.declared.RecordStamped.{RecordStamped}
+
+-- A refused call changes nothing; an accepted one leaves the drum that the record holds, and one that is off has no level.
+unfoldable pub settled : ℕ → RecordDrum → RecordDrum
+settled number d = cond (eqb number accepted) (recordDrum (drumOf d)) d
+
+abbrev pub recordStamped : RecordDrum → RecordDrum → RecordDrum → Stamped → RecordStamped
+recordStamped a b c s = record { a = settled (s .no) a; b = settled (s .no) b; c = settled (s .no) c; stamp = s .stamp; no = s .no }

@@ -1,0 +1,51 @@
+// What the calls change of a lent record, stepped by value, with the record's three drums: an accepted call leaves a drum that is off at
+// level 0. `ok` is the test of the record. 01, "Registers and ports" and "Numbers a call can answer".
+ghost use mathlib.Core.Path.{_≡_};
+ghost use Rattle.steps_cycles.specs.CycleSteps.{stampSet};
+ghost use Rattle.c_steps.specs.RecordSteps.{recordStamped, settled};
+use c_record::RecordDrum;
+
+// The drums and the stamp to store, and the call's number.
+pub struct RecordStamped {
+    pub a: RecordDrum,
+    pub b: RecordDrum,
+    pub c: RecordDrum,
+    pub stamp: u64,
+    pub no: u8,
+}
+
+pub fn set_cpu_cycle(
+    ok: bool,
+    a: RecordDrum,
+    b: RecordDrum,
+    c: RecordDrum,
+    stamp: u64,
+    cycle: u64,
+) -> RecordStamped
+    ensures { λ r. ⌜ r ≡ recordStamped a b c (stampSet ok stamp cycle) ⌝ }
+{
+    let r = steps_cycles::set_cpu_cycle(ok, stamp, cycle);
+    RecordStamped {
+        a: settled(r.no, a),
+        b: settled(r.no, b),
+        c: settled(r.no, c),
+        stamp: r.stamp,
+        no: r.no,
+    }
+}
+
+// A refused call leaves a drum as it was, in every byte.
+fn settled(no: u8, drum: RecordDrum) -> RecordDrum
+    ensures { λ r. ⌜ r ≡ settled no drum ⌝ }
+{
+    if no != refusals::ACCEPTED {
+        return drum;
+    }
+    if drum.on {
+        return drum;
+    }
+    RecordDrum {
+        on: false,
+        sample: 0.0,
+    }
+}

@@ -1,0 +1,171 @@
+-- The parts of a lent record that a call takes out and stores back, as `Parts.antt` has them. Assumes nothing.
+use mathlib.Core.Path.{refl}
+use Prim.Native.Nat.{ℕ, _+_}
+use mathlib.Core.List.{[], _∷_}
+use mir.Syntax.{field}
+use types.Run.{stop, fld}
+use types.Part.{whole, sub}
+use denote.Laws.{valss}
+use denote.Struct.Struct.{AreAll}
+use denote.Struct.Declared.{Declared, fields}
+use denote.Struct.Laws as LL
+use Rattle.laws.proofs.Flat.{Flat, structf, u8f, u64f}
+use Rattle.lent_walks.proofs.Parts.{Part, IsOne, whole-val, offset, with-path}
+use Rattle.registers.specs.declared.Voice.{Voice}
+use Rattle.registers.proofs.Voice as voice′
+use Rattle.registers.proofs.Voice.Laws as voice-laws
+use Rattle.c_record.specs.declared.Record.{Record}
+use Rattle.c_record.specs.declared.RecordCore.{RecordCore}
+use Rattle.c_record.specs.declared.RecordDrum.{RecordDrum}
+use Rattle.c_record.proofs.Record as record′
+use Rattle.c_record.proofs.Record.Laws as record-laws
+use Rattle.c_record.proofs.RecordCore as core′
+use Rattle.c_record.proofs.RecordCore.Laws as core-laws
+use Rattle.c_record.proofs.RecordChannel as channel′
+use Rattle.c_record.proofs.RecordChannel.Laws as channel-laws
+use Rattle.c_record.proofs.Replies.{drum, lent}
+
+abbrev pub voicef : Flat
+voicef = structf voice′.the-type voice-laws.the-field-laws voice-laws.the-field-plain
+
+-- what is known of a struct's fields
+abbrev FieldsAre : (T : Declared) → LL.Laws T → T .D → Type 0
+FieldsAre T L d = AreAll (fields T) (T .to d) (valss (fields T) (LL.spells (T .parts) L) (T .to d))
+
+-- a record is one of its type: what its core's fields and a channel's then are, and that the record with another core is one too
+pub core-are : (x : Record) → IsOne lent x → FieldsAre core′.the-type core-laws.the-laws (x .core)
+core-are x is = LL.owed core′.the-type core-laws.the-laws (x .core) _ (LL.owed record′.the-type record-laws.the-laws x _ is .0)
+
+pub core-is : (x : Record) (core : RecordCore) → IsOne lent x → FieldsAre core′.the-type core-laws.the-laws core → IsOne lent (record { core = core; queue = x .queue })
+core-is x core is are = LL.owes record′.the-type record-laws.the-laws (record { core = core; queue = x .queue }) (LL.owes core′.the-type core-laws.the-laws core are, LL.owed record′.the-type record-laws.the-laws x _ is .1)
+
+-- the registers, generators, gates and IRQ flag
+abbrev pub with-voice : Voice → Record → Record
+with-voice y x = record { core = record { clocks = x .core .clocks; voice = y; a = x .core .a; b = x .core .b; c = x .core .c; selected = x .core .selected; accumulator = x .core .accumulator; stamp = x .core .stamp; start = x .core .start }; queue = x .queue }
+
+abbrev pub voice : Part lent
+voice = record {
+  X = voicef;
+  path = field 0 ∷ field 1 ∷ [];
+  at = λ o. (o + offset record-laws.mir 0) + offset core-laws.mir 1;
+  of = λ x. x .core .voice;
+  put = with-voice;
+  with = λ u x. with-path (0 ∷ 1 ∷ []) (whole-val lent x) u;
+  with-put = λ y x. refl;
+  of-is = λ x is. core-are x is .1 .0;
+  put-is = λ y x y-is is. let k = core-are x is in core-is x (with-voice y x .core) is (k .0, (y-is, (k .1 .1 .0, (k .1 .1 .1 .0, (k .1 .1 .1 .1 .0, (k .1 .1 .1 .1 .1 .0, (k .1 .1 .1 .1 .1 .1 .0, (k .1 .1 .1 .1 .1 .1 .1 .0, (k .1 .1 .1 .1 .1 .1 .1 .1 .0, tt)))))))));
+  found = λ t b o. fld t refl (fld t refl (stop t));
+  lies = λ t q b o x. sub t 1 refl (sub t 0 refl (whole t));
+}
+
+-- the drums of the three channels
+abbrev pub with-drum-a : RecordDrum → Record → Record
+with-drum-a y x = record { core = record { clocks = x .core .clocks; voice = x .core .voice; a = record { muted = x .core .a .muted; drum = y; output = x .core .a .output; amplitude = x .core .a .amplitude }; b = x .core .b; c = x .core .c; selected = x .core .selected; accumulator = x .core .accumulator; stamp = x .core .stamp; start = x .core .start }; queue = x .queue }
+
+abbrev pub drum-a : Part lent
+drum-a = record {
+  X = drum;
+  path = field 0 ∷ field 2 ∷ field 1 ∷ [];
+  at = λ o. ((o + offset record-laws.mir 0) + offset core-laws.mir 2) + offset channel-laws.mir 1;
+  of = λ x. x .core .a .drum;
+  put = with-drum-a;
+  with = λ u x. with-path (0 ∷ 2 ∷ 1 ∷ []) (whole-val lent x) u;
+  with-put = λ y x. refl;
+  of-is = λ x is. LL.owed channel′.the-type channel-laws.the-laws (x .core .a) _ (core-are x is .1 .1 .0) .1 .0;
+  put-is = λ y x y-is is. let k = core-are x is in let c = LL.owed channel′.the-type channel-laws.the-laws (x .core .a) _ (k .1 .1 .0) in core-is x (with-drum-a y x .core) is (k .0, (k .1 .0, (LL.owes channel′.the-type channel-laws.the-laws (with-drum-a y x .core .a) (c .0, (y-is, (c .1 .1 .0, (c .1 .1 .1 .0, tt)))), (k .1 .1 .1 .0, (k .1 .1 .1 .1 .0, (k .1 .1 .1 .1 .1 .0, (k .1 .1 .1 .1 .1 .1 .0, (k .1 .1 .1 .1 .1 .1 .1 .0, (k .1 .1 .1 .1 .1 .1 .1 .1 .0, tt)))))))));
+  found = λ t b o. fld t refl (fld t refl (fld t refl (stop t)));
+  lies = λ t q b o x. sub t 1 refl (sub t 2 refl (sub t 0 refl (whole t)));
+}
+
+abbrev pub with-drum-b : RecordDrum → Record → Record
+with-drum-b y x = record { core = record { clocks = x .core .clocks; voice = x .core .voice; a = x .core .a; b = record { muted = x .core .b .muted; drum = y; output = x .core .b .output; amplitude = x .core .b .amplitude }; c = x .core .c; selected = x .core .selected; accumulator = x .core .accumulator; stamp = x .core .stamp; start = x .core .start }; queue = x .queue }
+
+abbrev pub drum-b : Part lent
+drum-b = record {
+  X = drum;
+  path = field 0 ∷ field 3 ∷ field 1 ∷ [];
+  at = λ o. ((o + offset record-laws.mir 0) + offset core-laws.mir 3) + offset channel-laws.mir 1;
+  of = λ x. x .core .b .drum;
+  put = with-drum-b;
+  with = λ u x. with-path (0 ∷ 3 ∷ 1 ∷ []) (whole-val lent x) u;
+  with-put = λ y x. refl;
+  of-is = λ x is. LL.owed channel′.the-type channel-laws.the-laws (x .core .b) _ (core-are x is .1 .1 .1 .0) .1 .0;
+  put-is = λ y x y-is is. let k = core-are x is in let c = LL.owed channel′.the-type channel-laws.the-laws (x .core .b) _ (k .1 .1 .1 .0) in core-is x (with-drum-b y x .core) is (k .0, (k .1 .0, (k .1 .1 .0, (LL.owes channel′.the-type channel-laws.the-laws (with-drum-b y x .core .b) (c .0, (y-is, (c .1 .1 .0, (c .1 .1 .1 .0, tt)))), (k .1 .1 .1 .1 .0, (k .1 .1 .1 .1 .1 .0, (k .1 .1 .1 .1 .1 .1 .0, (k .1 .1 .1 .1 .1 .1 .1 .0, (k .1 .1 .1 .1 .1 .1 .1 .1 .0, tt)))))))));
+  found = λ t b o. fld t refl (fld t refl (fld t refl (stop t)));
+  lies = λ t q b o x. sub t 1 refl (sub t 3 refl (sub t 0 refl (whole t)));
+}
+
+abbrev pub with-drum-c : RecordDrum → Record → Record
+with-drum-c y x = record { core = record { clocks = x .core .clocks; voice = x .core .voice; a = x .core .a; b = x .core .b; c = record { muted = x .core .c .muted; drum = y; output = x .core .c .output; amplitude = x .core .c .amplitude }; selected = x .core .selected; accumulator = x .core .accumulator; stamp = x .core .stamp; start = x .core .start }; queue = x .queue }
+
+abbrev pub drum-c : Part lent
+drum-c = record {
+  X = drum;
+  path = field 0 ∷ field 4 ∷ field 1 ∷ [];
+  at = λ o. ((o + offset record-laws.mir 0) + offset core-laws.mir 4) + offset channel-laws.mir 1;
+  of = λ x. x .core .c .drum;
+  put = with-drum-c;
+  with = λ u x. with-path (0 ∷ 4 ∷ 1 ∷ []) (whole-val lent x) u;
+  with-put = λ y x. refl;
+  of-is = λ x is. LL.owed channel′.the-type channel-laws.the-laws (x .core .c) _ (core-are x is .1 .1 .1 .1 .0) .1 .0;
+  put-is = λ y x y-is is. let k = core-are x is in let c = LL.owed channel′.the-type channel-laws.the-laws (x .core .c) _ (k .1 .1 .1 .1 .0) in core-is x (with-drum-c y x .core) is (k .0, (k .1 .0, (k .1 .1 .0, (k .1 .1 .1 .0, (LL.owes channel′.the-type channel-laws.the-laws (with-drum-c y x .core .c) (c .0, (y-is, (c .1 .1 .0, (c .1 .1 .1 .0, tt)))), (k .1 .1 .1 .1 .1 .0, (k .1 .1 .1 .1 .1 .1 .0, (k .1 .1 .1 .1 .1 .1 .1 .0, (k .1 .1 .1 .1 .1 .1 .1 .1 .0, tt)))))))));
+  found = λ t b o. fld t refl (fld t refl (fld t refl (stop t)));
+  lies = λ t q b o x. sub t 1 refl (sub t 4 refl (sub t 0 refl (whole t)));
+}
+
+-- the selected register
+abbrev pub with-selected : ℕ → Record → Record
+with-selected y x = record { core = record { clocks = x .core .clocks; voice = x .core .voice; a = x .core .a; b = x .core .b; c = x .core .c; selected = y; accumulator = x .core .accumulator; stamp = x .core .stamp; start = x .core .start }; queue = x .queue }
+
+abbrev pub selected : Part lent
+selected = record {
+  X = u8f;
+  path = field 0 ∷ field 5 ∷ [];
+  at = λ o. (o + offset record-laws.mir 0) + offset core-laws.mir 5;
+  of = λ x. x .core .selected;
+  put = with-selected;
+  with = λ u x. with-path (0 ∷ 5 ∷ []) (whole-val lent x) u;
+  with-put = λ y x. refl;
+  of-is = λ x is. core-are x is .1 .1 .1 .1 .1 .0;
+  put-is = λ y x y-is is. let k = core-are x is in core-is x (with-selected y x .core) is (k .0, (k .1 .0, (k .1 .1 .0, (k .1 .1 .1 .0, (k .1 .1 .1 .1 .0, (y-is, (k .1 .1 .1 .1 .1 .1 .0, (k .1 .1 .1 .1 .1 .1 .1 .0, (k .1 .1 .1 .1 .1 .1 .1 .1 .0, tt)))))))));
+  found = λ t b o. fld t refl (fld t refl (stop t));
+  lies = λ t q b o x. sub t 5 refl (sub t 0 refl (whole t));
+}
+
+-- the stamp of later writes
+abbrev pub with-stamp : ℕ → Record → Record
+with-stamp y x = record { core = record { clocks = x .core .clocks; voice = x .core .voice; a = x .core .a; b = x .core .b; c = x .core .c; selected = x .core .selected; accumulator = x .core .accumulator; stamp = y; start = x .core .start }; queue = x .queue }
+
+abbrev pub stamp : Part lent
+stamp = record {
+  X = u64f;
+  path = field 0 ∷ field 7 ∷ [];
+  at = λ o. (o + offset record-laws.mir 0) + offset core-laws.mir 7;
+  of = λ x. x .core .stamp;
+  put = with-stamp;
+  with = λ u x. with-path (0 ∷ 7 ∷ []) (whole-val lent x) u;
+  with-put = λ y x. refl;
+  of-is = λ x is. core-are x is .1 .1 .1 .1 .1 .1 .1 .0;
+  put-is = λ y x y-is is. let k = core-are x is in core-is x (with-stamp y x .core) is (k .0, (k .1 .0, (k .1 .1 .0, (k .1 .1 .1 .0, (k .1 .1 .1 .1 .0, (k .1 .1 .1 .1 .1 .0, (k .1 .1 .1 .1 .1 .1 .0, (y-is, (k .1 .1 .1 .1 .1 .1 .1 .1 .0, tt)))))))));
+  found = λ t b o. fld t refl (fld t refl (stop t));
+  lies = λ t q b o x. sub t 7 refl (sub t 0 refl (whole t));
+}
+
+-- the next word's start
+abbrev pub with-start : ℕ → Record → Record
+with-start y x = record { core = record { clocks = x .core .clocks; voice = x .core .voice; a = x .core .a; b = x .core .b; c = x .core .c; selected = x .core .selected; accumulator = x .core .accumulator; stamp = x .core .stamp; start = y }; queue = x .queue }
+
+abbrev pub start : Part lent
+start = record {
+  X = u64f;
+  path = field 0 ∷ field 8 ∷ [];
+  at = λ o. (o + offset record-laws.mir 0) + offset core-laws.mir 8;
+  of = λ x. x .core .start;
+  put = with-start;
+  with = λ u x. with-path (0 ∷ 8 ∷ []) (whole-val lent x) u;
+  with-put = λ y x. refl;
+  of-is = λ x is. core-are x is .1 .1 .1 .1 .1 .1 .1 .1 .0;
+  put-is = λ y x y-is is. let k = core-are x is in core-is x (with-start y x .core) is (k .0, (k .1 .0, (k .1 .1 .0, (k .1 .1 .1 .0, (k .1 .1 .1 .1 .0, (k .1 .1 .1 .1 .1 .0, (k .1 .1 .1 .1 .1 .1 .0, (k .1 .1 .1 .1 .1 .1 .1 .0, (y-is, tt)))))))));
+  found = λ t b o. fld t refl (fld t refl (stop t));
+  lies = λ t q b o x. sub t 8 refl (sub t 0 refl (whole t));
+}
