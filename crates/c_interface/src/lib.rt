@@ -124,9 +124,22 @@ pub extern "C" fn ym2149_sync_sample_cycle(chip: &mut Record, cycle: u64) -> u8
     ensures { λ r. ⌜ (r ≡ onRecord (syncSampleCycle cycle) (now (chip .entry)) .no)
         × (now (chip .exit) ≡ onRecord (syncSampleCycle cycle) (now (chip .entry)) .chip) ⌝ }
 {
-    let r = c_calls::sync_sample_cycle(*chip, cycle);
-    *chip = r.chip;
-    r.no
+    let ok = lent_record::in_range(&*chip);
+    let both = c_steps::sync_sample_cycle(
+        ok,
+        chip.core.a.drum,
+        chip.core.b.drum,
+        chip.core.c.drum,
+        chip.core.stamp,
+        chip.core.start,
+        cycle,
+    );
+    chip.core.a.drum = both.a;
+    chip.core.b.drum = both.b;
+    chip.core.c.drum = both.c;
+    chip.core.stamp = both.stamp;
+    chip.core.start = both.start;
+    both.no
 }
 
 #[no_mangle]
@@ -239,14 +252,16 @@ pub extern "C" fn ym2149_read_port(chip: &Record, port: u8) -> Byte
 pub extern "C" fn ym2149_cpu_cycle(chip: &Record) -> Cycle
     ensures { λ r. ⌜ r ≡ cpuCycle (chipOf (now (chip .entry))) ⌝ }
 {
-    c_calls::cpu_cycle(*chip)
+    let ok = lent_record::in_range(chip);
+    steps_cycles::cpu_cycle(ok, chip.core.stamp)
 }
 
 #[no_mangle]
 pub extern "C" fn ym2149_pending_write_count(chip: &Record) -> Count
     ensures { λ r. ⌜ r ≡ pendingWriteCount (chipOf (now (chip .entry))) ⌝ }
 {
-    c_calls::pending_write_count(*chip)
+    let ok = lent_record::in_range(chip);
+    steps_cycles::pending_write_count(ok, chip.queue.count)
 }
 
 #[no_mangle]

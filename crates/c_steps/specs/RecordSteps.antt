@@ -6,7 +6,9 @@ use Rattle.refusals.specs.Numbers.{accepted}
 use Rattle.c_record.specs.declared.RecordDrum.{RecordDrum}
 use Rattle.c_record.specs.Record.{drumOf, recordDrum}
 use Rattle.steps_cycles.specs.declared.Stamped.{Stamped}
+use Rattle.steps_cycles.specs.declared.Synced.{Synced}
 use Rattle.c_steps.specs.declared.RecordStamped.{RecordStamped}
+use Rattle.c_steps.specs.declared.RecordSynced.{RecordSynced}
 
 -- A refused call changes nothing; an accepted one leaves the drum that the record holds, and one that is off has no level.
 unfoldable pub settled : ℕ → RecordDrum → RecordDrum
@@ -14,3 +16,6 @@ settled number d = cond (eqb number accepted) (recordDrum (drumOf d)) d
 
 abbrev pub recordStamped : RecordDrum → RecordDrum → RecordDrum → Stamped → RecordStamped
 recordStamped a b c s = record { a = settled (s .no) a; b = settled (s .no) b; c = settled (s .no) c; stamp = s .stamp; no = s .no }
+
+abbrev pub recordSynced : RecordDrum → RecordDrum → RecordDrum → Synced → RecordSynced
+recordSynced a b c s = record { a = settled (s .no) a; b = settled (s .no) b; c = settled (s .no) c; stamp = s .stamp; start = s .start; no = s .no }

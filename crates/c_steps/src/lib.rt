@@ -1,8 +1,8 @@
 // What the calls change of a lent record, stepped by value, with the record's three drums: an accepted call leaves a drum that is off at
 // level 0. `ok` is the test of the record. 01, "Registers and ports" and "Numbers a call can answer".
 ghost use mathlib.Core.Path.{_≡_};
-ghost use Rattle.steps_cycles.specs.CycleSteps.{stampSet};
-ghost use Rattle.c_steps.specs.RecordSteps.{recordStamped, settled};
+ghost use Rattle.steps_cycles.specs.CycleSteps.{bothSet, stampSet};
+ghost use Rattle.c_steps.specs.RecordSteps.{recordStamped, recordSynced, settled};
 use c_record::RecordDrum;
 
 // The drums and the stamp to store, and the call's number.
@@ -11,6 +11,16 @@ pub struct RecordStamped {
     pub b: RecordDrum,
     pub c: RecordDrum,
     pub stamp: u64,
+    pub no: u8,
+}
+
+// The drums, the stamp and the next word's start to store, and the call's number.
+pub struct RecordSynced {
+    pub a: RecordDrum,
+    pub b: RecordDrum,
+    pub c: RecordDrum,
+    pub stamp: u64,
+    pub start: u64,
     pub no: u8,
 }
 
@@ -30,6 +40,28 @@ pub fn set_cpu_cycle(
         b: settled(r.no, b),
         c: settled(r.no, c),
         stamp: r.stamp,
+        no: r.no,
+    }
+}
+
+pub fn sync_sample_cycle(
+    ok: bool,
+    a: RecordDrum,
+    b: RecordDrum,
+    c: RecordDrum,
+    stamp: u64,
+    start: u64,
+    cycle: u64,
+) -> RecordSynced
+    ensures { λ r. ⌜ r ≡ recordSynced a b c (bothSet ok stamp start cycle) ⌝ }
+{
+    let r = steps_cycles::sync_sample_cycle(ok, stamp, start, cycle);
+    RecordSynced {
+        a: settled(r.no, a),
+        b: settled(r.no, b),
+        c: settled(r.no, c),
+        stamp: r.stamp,
+        start: r.start,
         no: r.no,
     }
 }

@@ -75,9 +75,11 @@ pub fn sync_sample_cycle(chip: &mut Chip, cycle: u64) -> u8
     ensures { λ r. ⌜ (r ≡ syncSampleCycle cycle (now (chip .entry)) .no)
         × (now (chip .exit) ≡ syncSampleCycle cycle (now (chip .entry)) .chip) ⌝ }
 {
-    let r = calls_cycles::sync_sample_cycle(*chip, cycle);
-    *chip = r.chip;
-    r.no
+    let ok = lent_chip::in_range(&*chip);
+    let both = steps_cycles::sync_sample_cycle(ok, chip.core.stamp, chip.core.start, cycle);
+    chip.core.stamp = both.stamp;
+    chip.core.start = both.start;
+    both.no
 }
 
 pub fn flush_pending_writes(chip: &mut Chip) -> u8
@@ -155,13 +157,15 @@ pub fn read_port(chip: &Chip, port: u8) -> Byte
 pub fn cpu_cycle(chip: &Chip) -> Cycle
     ensures { λ r. ⌜ r ≡ cpuCycle (now (chip .entry)) ⌝ }
 {
-    calls_cycles::cpu_cycle(*chip)
+    let ok = lent_chip::in_range(chip);
+    steps_cycles::cpu_cycle(ok, chip.core.stamp)
 }
 
 pub fn pending_write_count(chip: &Chip) -> Count
     ensures { λ r. ⌜ r ≡ pendingWriteCount (now (chip .entry)) ⌝ }
 {
-    calls_cycles::pending_write_count(*chip)
+    let ok = lent_chip::in_range(chip);
+    steps_cycles::pending_write_count(ok, chip.queue.count)
 }
 
 pub fn is_channel_muted(chip: &Chip, channel: usize) -> Flag

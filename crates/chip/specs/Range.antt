@@ -1,14 +1,15 @@
 -- The test that answers 22. 01, "What changes shape": "As a caller can hand in any record, calls test it".
 -- From "stored bytes within masks" to "gate masks to 0x7fff" it is `voiceIn`, on the page of `voice_range`. Assumes nothing.
 use mathlib.Core.Bool.{Bool, true}
-use mathlib.Core.List.{[], _∷_}
+use mathlib.Core.List.{List, [], _∷_}
 use Prim.Native.Nat.{ℕ, _*_, _/_, _<_}
 use lib.Dec.{leb, ltb, eqb}
 use Rattle.laws.specs.All.{holds}
 use Rattle.refusals.specs.Numbers.{accepted}
+use Rattle.registers.specs.declared.Voice.{Voice}
 use Rattle.registers.specs.Range.{VoiceInRange}
 use Rattle.voice_range.specs.Range.{voiceIn}
-use Rattle.queue.specs.Waiting.{queueIn}
+use Rattle.queue.specs.Waiting.{bare, queueIn}
 use Rattle.chip.specs.declared.Clocks.{Clocks}
 use Rattle.chip.specs.declared.Core.{Core}
 use Rattle.chip.specs.declared.Chip.{Chip}
@@ -33,6 +34,11 @@ coreIn c = holds (clocksIn (c .clocks) (c .accumulator) ∷ voiceIn (c .voice) �
 -- each waiting write's register to 15, at most 256 waiting, the ring's place below 256.
 unfoldable pub chipIn : Chip → Bool
 chipIn c = holds (coreIn (c .core) ∷ queueIn (c .queue) ∷ [])
+
+-- The same, by the parts of the record that it looks at.
+unfoldable pub partsIn : Clocks → ℕ → Voice → ℕ → List ℕ → ℕ → ℕ → Bool
+partsIn clocks accumulator voice selected registers head count =
+    holds (clocksIn clocks accumulator ∷ voiceIn voice ∷ leb selected 15 ∷ queueIn (bare registers head count) ∷ [])
 
 -- What the test gives, and an inner call asks of its caller: accepted clocks and their quotients, accumulator below the rate.
 pub record CoreInRange (c : Core) : Type 0 where

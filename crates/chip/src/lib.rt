@@ -3,7 +3,7 @@ ghost use mathlib.Core.Path.{_≡_};
 ghost use Rattle.refusals.specs.Numbers.{accepted};
 ghost use Rattle.clocks.specs.Clocks.{clocksNo};
 ghost use Rattle.chip.specs.Clocks.{clocksOf};
-ghost use Rattle.chip.specs.Range.{clocksIn, coreIn, chipIn};
+ghost use Rattle.chip.specs.Range.{clocksIn, coreIn, chipIn, partsIn};
 use queue::Queue;
 use registers::Voice;
 use three_channels::Channels;
@@ -53,6 +53,33 @@ pub fn in_range(chip: Chip) -> bool
         return false;
     }
     if !chip.queue.in_range() {
+        return false;
+    }
+    true
+}
+
+// The same test by what it looks at, for a record that is lent: read where it lies, as long as this has one caller in a program.
+pub fn parts_in(
+    clocks: Clocks,
+    accumulator: u32,
+    voice: Voice,
+    selected: u8,
+    registers: [u8; 256],
+    head: usize,
+    count: usize,
+) -> bool
+    ensures { λ r. ⌜ r ≡ partsIn clocks accumulator voice selected registers head count ⌝ }
+{
+    if !clocks_in(clocks, accumulator) {
+        return false;
+    }
+    if !voice_range::voice_in(voice) {
+        return false;
+    }
+    if selected > 15 {
+        return false;
+    }
+    if !queue::ring_in(registers, head, count) {
         return false;
     }
     true

@@ -1,17 +1,23 @@
 -- The parts of a lent chip that a call takes out and stores back, as `Parts.antt` has them. Assumes nothing.
-use mathlib.Core.Path.{refl}
-use Prim.Native.Nat.{_+_}
-use mathlib.Core.List.{[], _∷_}
+use mathlib.Core.Path.{refl, sym, ap, subst}
+use Prim.Native.Nat.{ℕ, _+_}
+use mathlib.Core.List.{List, [], _∷_, map}
 use mir.Syntax.{field}
 use types.Run.{stop, fld}
 use types.Part.{whole, sub}
-use denote.Laws.{valss}
+use denote.Laws.{Is, valss}
 use denote.Struct.Struct.{AreAll}
-use denote.Struct.Declared.{fields}
+use denote.Struct.Declared.{Declared, fields}
 use denote.Struct.Laws as LL
-use Rattle.laws.proofs.Flat.{Flat, structf, u8f, u64f}
-use Rattle.lent_walks.proofs.Parts.{Part, IsOne, whole-val, offset, with-path}
+use Rattle.laws.proofs.Flat.{Flat, row, vals, val-of, bytesf, structf, u8f, u32f, u64f, usizef}
+use Rattle.lent_walks.proofs.Parts.{Part, IsOne, whole-val, map-same, offset, with-path}
+use Rattle.queue.specs.declared.Queue.{Queue}
+use Rattle.queue.proofs.Queue as queue′
+use Rattle.queue.proofs.Queue.Laws as queue-laws
 use Rattle.chip.specs.declared.Chip.{Chip}
+use Rattle.chip.specs.declared.Clocks.{Clocks}
+use Rattle.chip.proofs.Clocks as clocks′
+use Rattle.chip.proofs.Clocks.Laws as clocks-laws
 use Rattle.chip.specs.declared.Core.{Core}
 use Rattle.registers.proofs.Voice as voice′
 use Rattle.registers.proofs.Voice.Laws as voice-laws
@@ -25,18 +31,51 @@ use Rattle.chip_parts.specs.Parts.{withChannels, withCore, withSelection, withT
 use Rattle.answers.proofs.Replies.{chip}
 
 -- the parts that are structs, as `Flat.antt` has them
+abbrev pub clocksf : Flat
+clocksf = structf clocks′.the-type clocks-laws.the-field-laws clocks-laws.the-field-plain
+
 abbrev pub voicef : Flat
 voicef = structf voice′.the-type voice-laws.the-field-laws voice-laws.the-field-plain
 
 abbrev pub channelsf : Flat
 channelsf = structf channels′.the-type channels-laws.the-field-laws channels-laws.the-field-plain
 
+-- what is known of a struct's fields
+abbrev pub FieldsAre : (T : Declared) → LL.Laws T → T .D → Type 0
+FieldsAre T L d = AreAll (fields T) (T .to d) (valss (fields T) (LL.spells (T .parts) L) (T .to d))
+
 -- a chip is one of its type: what its core's fields then are, and that the core with others is one too
-pub core-are : (c : Chip) → IsOne chip c → AreAll (fields core′.the-type) (core′.the-type .to (c .core)) (valss (fields core′.the-type) (LL.spells (core′.the-type .parts) core-laws.the-laws) (core′.the-type .to (c .core)))
+pub core-are : (c : Chip) → IsOne chip c → FieldsAre core′.the-type core-laws.the-laws (c .core)
 core-are c is = LL.owed core′.the-type core-laws.the-laws (c .core) _ (LL.owed chip′.the-type chip-laws.the-laws c _ is .0)
 
-pub core-is : (c : Chip) (core : Core) → IsOne chip c → AreAll (fields core′.the-type) (core′.the-type .to core) (valss (fields core′.the-type) (LL.spells (core′.the-type .parts) core-laws.the-laws) (core′.the-type .to core)) → IsOne chip (withCore core c)
+pub core-is : (c : Chip) (core : Core) → IsOne chip c → FieldsAre core′.the-type core-laws.the-laws core → IsOne chip (withCore core c)
 core-is c core is are = LL.owes chip′.the-type chip-laws.the-laws (withCore core c) (LL.owes core′.the-type core-laws.the-laws core are, LL.owed chip′.the-type chip-laws.the-laws c _ is .1)
+
+-- the same of its ring
+pub queue-are : (c : Chip) → IsOne chip c → FieldsAre queue′.the-type queue-laws.the-laws (c .queue)
+queue-are c is = LL.owed queue′.the-type queue-laws.the-laws (c .queue) _ (LL.owed chip′.the-type chip-laws.the-laws c _ is .1 .0)
+
+pub queue-is : (c : Chip) (queue : Queue) → IsOne chip c → FieldsAre queue′.the-type queue-laws.the-laws queue → IsOne chip (record { core = c .core; queue = queue })
+queue-is c queue is are = LL.owes chip′.the-type chip-laws.the-laws (record { core = c .core; queue = queue }) (LL.owed chip′.the-type chip-laws.the-laws c _ is .0, (LL.owes queue′.the-type queue-laws.the-laws queue are, tt))
+
+-- the clocks
+abbrev pub with-clocks : Clocks → Chip → Chip
+with-clocks y c = record { core = record { clocks = y; voice = c .core .voice; channels = c .core .channels; selected = c .core .selected; accumulator = c .core .accumulator; stamp = c .core .stamp; start = c .core .start }; queue = c .queue }
+
+abbrev pub clocks : Part chip
+clocks = record {
+  X = clocksf;
+  path = field 0 ∷ field 0 ∷ [];
+  at = λ o. (o + offset chip-laws.mir 0) + offset core-laws.mir 0;
+  of = λ c. c .core .clocks;
+  put = with-clocks;
+  with = λ u c. with-path (0 ∷ 0 ∷ []) (whole-val chip c) u;
+  with-put = λ y c. refl;
+  of-is = λ c is. core-are c is .0;
+  put-is = λ y c y-is is. let k = core-are c is in core-is c (with-clocks y c .core) is (y-is, (k .1 .0, (k .1 .1 .0, (k .1 .1 .1 .0, (k .1 .1 .1 .1 .0, (k .1 .1 .1 .1 .1 .0, (k .1 .1 .1 .1 .1 .1 .0, tt)))))));
+  found = λ t b o. fld t refl (fld t refl (stop t));
+  lies = λ t q b o c. sub t 0 refl (sub t 0 refl (whole t));
+}
 
 -- the registers, generators, gates and IRQ flag
 abbrev pub voice : Part chip
@@ -86,6 +125,25 @@ selected = record {
   lies = λ t q b o c. sub t 3 refl (sub t 0 refl (whole t));
 }
 
+-- the accumulator
+abbrev pub with-accumulator : ℕ → Chip → Chip
+with-accumulator y c = record { core = record { clocks = c .core .clocks; voice = c .core .voice; channels = c .core .channels; selected = c .core .selected; accumulator = y; stamp = c .core .stamp; start = c .core .start }; queue = c .queue }
+
+abbrev pub accumulator : Part chip
+accumulator = record {
+  X = u32f;
+  path = field 0 ∷ field 4 ∷ [];
+  at = λ o. (o + offset chip-laws.mir 0) + offset core-laws.mir 4;
+  of = λ c. c .core .accumulator;
+  put = with-accumulator;
+  with = λ u c. with-path (0 ∷ 4 ∷ []) (whole-val chip c) u;
+  with-put = λ y c. refl;
+  of-is = λ c is. core-are c is .1 .1 .1 .1 .0;
+  put-is = λ y c y-is is. let k = core-are c is in core-is c (with-accumulator y c .core) is (k .0, (k .1 .0, (k .1 .1 .0, (k .1 .1 .1 .0, (y-is, (k .1 .1 .1 .1 .1 .0, (k .1 .1 .1 .1 .1 .1 .0, tt)))))));
+  found = λ t b o. fld t refl (fld t refl (stop t));
+  lies = λ t q b o c. sub t 4 refl (sub t 0 refl (whole t));
+}
+
 -- the stamp of later writes
 abbrev pub stamp : Part chip
 stamp = record {
@@ -116,4 +174,59 @@ start = record {
   put-is = λ y c y-is is. let k = core-are c is in core-is c ((withTimes (c .core .stamp) y c) .core) is (k .0, (k .1 .0, (k .1 .1 .0, (k .1 .1 .1 .0, (k .1 .1 .1 .1 .0, (k .1 .1 .1 .1 .1 .0, (y-is, tt)))))));
   found = λ t b o. fld t refl (fld t refl (stop t));
   lies = λ t q b o c. sub t 6 refl (sub t 0 refl (whole t));
+}
+
+-- the ring's registers, its place and its count
+abbrev pub with-registers : List ℕ → Chip → Chip
+with-registers y c = record { core = c .core; queue = record { stamps = c .queue .stamps; registers = y; values = c .queue .values; head = c .queue .head; count = c .queue .count } }
+
+abbrev pub registers : Part chip
+registers = record {
+  X = bytesf 256;
+  path = field 1 ∷ field 1 ∷ [];
+  at = λ o. (o + offset chip-laws.mir 1) + offset queue-laws.mir 1;
+  of = λ c. map (λ v. v) (c .queue .registers);
+  put = with-registers;
+  with = λ u c. with-path (1 ∷ 1 ∷ []) (whole-val chip c) u;
+  with-put = λ y c. ap (λ (l : List ℕ). with-path (1 ∷ 1 ∷ []) (whole-val chip c) (val-of (bytesf 256) l)) (sym (map-same y));
+  of-is = λ c is. queue-are c is .1 .0;
+  put-is = λ y c y-is is. let k = queue-are c is in queue-is c (with-registers y c .queue) is (k .0, (subst (λ (l : List ℕ). Is (row (bytesf 256)) l (vals (bytesf 256) l)) (sym (map-same y)) y-is, (k .1 .1 .0, (k .1 .1 .1 .0, (k .1 .1 .1 .1 .0, tt)))));
+  found = λ t b o. fld t refl (fld t refl (stop t));
+  lies = λ t q b o c. sub t 1 refl (sub t 1 refl (whole t));
+}
+
+abbrev pub with-head : ℕ → Chip → Chip
+with-head y c = record { core = c .core; queue = record { stamps = c .queue .stamps; registers = c .queue .registers; values = c .queue .values; head = y; count = c .queue .count } }
+
+abbrev pub head : Part chip
+head = record {
+  X = usizef;
+  path = field 1 ∷ field 3 ∷ [];
+  at = λ o. (o + offset chip-laws.mir 1) + offset queue-laws.mir 3;
+  of = λ c. c .queue .head;
+  put = with-head;
+  with = λ u c. with-path (1 ∷ 3 ∷ []) (whole-val chip c) u;
+  with-put = λ y c. refl;
+  of-is = λ c is. queue-are c is .1 .1 .1 .0;
+  put-is = λ y c y-is is. let k = queue-are c is in queue-is c (with-head y c .queue) is (k .0, (k .1 .0, (k .1 .1 .0, (y-is, (k .1 .1 .1 .1 .0, tt)))));
+  found = λ t b o. fld t refl (fld t refl (stop t));
+  lies = λ t q b o c. sub t 3 refl (sub t 1 refl (whole t));
+}
+
+abbrev pub with-count : ℕ → Chip → Chip
+with-count y c = record { core = c .core; queue = record { stamps = c .queue .stamps; registers = c .queue .registers; values = c .queue .values; head = c .queue .head; count = y } }
+
+abbrev pub count : Part chip
+count = record {
+  X = usizef;
+  path = field 1 ∷ field 4 ∷ [];
+  at = λ o. (o + offset chip-laws.mir 1) + offset queue-laws.mir 4;
+  of = λ c. c .queue .count;
+  put = with-count;
+  with = λ u c. with-path (1 ∷ 4 ∷ []) (whole-val chip c) u;
+  with-put = λ y c. refl;
+  of-is = λ c is. queue-are c is .1 .1 .1 .1 .0;
+  put-is = λ y c y-is is. let k = queue-are c is in queue-is c (with-count y c .queue) is (k .0, (k .1 .0, (k .1 .1 .0, (k .1 .1 .1 .0, (y-is, tt)))));
+  found = λ t b o. fld t refl (fld t refl (stop t));
+  lies = λ t q b o c. sub t 4 refl (sub t 1 refl (whole t));
 }

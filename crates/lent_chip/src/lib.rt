@@ -7,12 +7,13 @@ use chip::Chip;
 pub fn in_range(chip: &Chip) -> bool
     ensures { λ r. ⌜ r ≡ chipIn (now (chip .entry)) ⌝ }
 {
-    chip_in(*chip)
-}
-
-// The one caller is `in_range`, so that the compiler reads the record where it lies.
-fn chip_in(chip: Chip) -> bool
-    ensures { λ r. ⌜ r ≡ chipIn chip ⌝ }
-{
-    chip::in_range(chip)
+    chip::parts_in(
+        chip.core.clocks,
+        chip.core.accumulator,
+        chip.core.voice,
+        chip.core.selected,
+        chip.queue.registers,
+        chip.queue.head,
+        chip.queue.count,
+    )
 }

@@ -1,19 +1,25 @@
 -- The parts of a lent record that a call takes out and stores back, as `Parts.antt` has them. Assumes nothing.
-use mathlib.Core.Path.{refl}
+use mathlib.Core.Path.{refl, sym, ap, subst}
 use Prim.Native.Nat.{ℕ, _+_}
-use mathlib.Core.List.{[], _∷_}
+use mathlib.Core.List.{List, [], _∷_, map}
 use mir.Syntax.{field}
 use types.Run.{stop, fld}
 use types.Part.{whole, sub}
-use denote.Laws.{valss}
+use denote.Laws.{Is, valss}
 use denote.Struct.Struct.{AreAll}
 use denote.Struct.Declared.{Declared, fields}
 use denote.Struct.Laws as LL
-use Rattle.laws.proofs.Flat.{Flat, structf, u8f, u64f}
-use Rattle.lent_walks.proofs.Parts.{Part, IsOne, whole-val, offset, with-path}
+use Rattle.laws.proofs.Flat.{Flat, row, vals, val-of, bytesf, structf, u8f, u32f, u64f, usizef}
+use Rattle.lent_walks.proofs.Parts.{Part, IsOne, whole-val, map-same, offset, with-path}
 use Rattle.registers.specs.declared.Voice.{Voice}
 use Rattle.registers.proofs.Voice as voice′
 use Rattle.registers.proofs.Voice.Laws as voice-laws
+use Rattle.queue.specs.declared.Queue.{Queue}
+use Rattle.queue.proofs.Queue as queue′
+use Rattle.queue.proofs.Queue.Laws as queue-laws
+use Rattle.chip.specs.declared.Clocks.{Clocks}
+use Rattle.chip.proofs.Clocks as clocks′
+use Rattle.chip.proofs.Clocks.Laws as clocks-laws
 use Rattle.c_record.specs.declared.Record.{Record}
 use Rattle.c_record.specs.declared.RecordCore.{RecordCore}
 use Rattle.c_record.specs.declared.RecordDrum.{RecordDrum}
@@ -24,6 +30,9 @@ use Rattle.c_record.proofs.RecordCore.Laws as core-laws
 use Rattle.c_record.proofs.RecordChannel as channel′
 use Rattle.c_record.proofs.RecordChannel.Laws as channel-laws
 use Rattle.c_record.proofs.Replies.{drum, lent}
+
+abbrev pub clocksf : Flat
+clocksf = structf clocks′.the-type clocks-laws.the-field-laws clocks-laws.the-field-plain
 
 abbrev pub voicef : Flat
 voicef = structf voice′.the-type voice-laws.the-field-laws voice-laws.the-field-plain
@@ -38,6 +47,32 @@ core-are x is = LL.owed core′.the-type core-laws.the-laws (x .core) _ (LL.owed
 
 pub core-is : (x : Record) (core : RecordCore) → IsOne lent x → FieldsAre core′.the-type core-laws.the-laws core → IsOne lent (record { core = core; queue = x .queue })
 core-is x core is are = LL.owes record′.the-type record-laws.the-laws (record { core = core; queue = x .queue }) (LL.owes core′.the-type core-laws.the-laws core are, LL.owed record′.the-type record-laws.the-laws x _ is .1)
+
+-- the same of its ring
+pub queue-are : (x : Record) → IsOne lent x → FieldsAre queue′.the-type queue-laws.the-laws (x .queue)
+queue-are x is = LL.owed queue′.the-type queue-laws.the-laws (x .queue) _ (LL.owed record′.the-type record-laws.the-laws x _ is .1 .0)
+
+pub queue-is : (x : Record) (queue : Queue) → IsOne lent x → FieldsAre queue′.the-type queue-laws.the-laws queue → IsOne lent (record { core = x .core; queue = queue })
+queue-is x queue is are = LL.owes record′.the-type record-laws.the-laws (record { core = x .core; queue = queue }) (LL.owed record′.the-type record-laws.the-laws x _ is .0, (LL.owes queue′.the-type queue-laws.the-laws queue are, tt))
+
+-- the clocks
+abbrev pub with-clocks : Clocks → Record → Record
+with-clocks y x = record { core = record { clocks = y; voice = x .core .voice; a = x .core .a; b = x .core .b; c = x .core .c; selected = x .core .selected; accumulator = x .core .accumulator; stamp = x .core .stamp; start = x .core .start }; queue = x .queue }
+
+abbrev pub clocks : Part lent
+clocks = record {
+  X = clocksf;
+  path = field 0 ∷ field 0 ∷ [];
+  at = λ o. (o + offset record-laws.mir 0) + offset core-laws.mir 0;
+  of = λ x. x .core .clocks;
+  put = with-clocks;
+  with = λ u x. with-path (0 ∷ 0 ∷ []) (whole-val lent x) u;
+  with-put = λ y x. refl;
+  of-is = λ x is. core-are x is .0;
+  put-is = λ y x y-is is. let k = core-are x is in core-is x (with-clocks y x .core) is (y-is, (k .1 .0, (k .1 .1 .0, (k .1 .1 .1 .0, (k .1 .1 .1 .1 .0, (k .1 .1 .1 .1 .1 .0, (k .1 .1 .1 .1 .1 .1 .0, (k .1 .1 .1 .1 .1 .1 .1 .0, (k .1 .1 .1 .1 .1 .1 .1 .1 .0, tt)))))))));
+  found = λ t b o. fld t refl (fld t refl (stop t));
+  lies = λ t q b o x. sub t 0 refl (sub t 0 refl (whole t));
+}
 
 -- the registers, generators, gates and IRQ flag
 abbrev pub with-voice : Voice → Record → Record
@@ -132,6 +167,25 @@ selected = record {
   lies = λ t q b o x. sub t 5 refl (sub t 0 refl (whole t));
 }
 
+-- the accumulator
+abbrev pub with-accumulator : ℕ → Record → Record
+with-accumulator y x = record { core = record { clocks = x .core .clocks; voice = x .core .voice; a = x .core .a; b = x .core .b; c = x .core .c; selected = x .core .selected; accumulator = y; stamp = x .core .stamp; start = x .core .start }; queue = x .queue }
+
+abbrev pub accumulator : Part lent
+accumulator = record {
+  X = u32f;
+  path = field 0 ∷ field 6 ∷ [];
+  at = λ o. (o + offset record-laws.mir 0) + offset core-laws.mir 6;
+  of = λ x. x .core .accumulator;
+  put = with-accumulator;
+  with = λ u x. with-path (0 ∷ 6 ∷ []) (whole-val lent x) u;
+  with-put = λ y x. refl;
+  of-is = λ x is. core-are x is .1 .1 .1 .1 .1 .1 .0;
+  put-is = λ y x y-is is. let k = core-are x is in core-is x (with-accumulator y x .core) is (k .0, (k .1 .0, (k .1 .1 .0, (k .1 .1 .1 .0, (k .1 .1 .1 .1 .0, (k .1 .1 .1 .1 .1 .0, (y-is, (k .1 .1 .1 .1 .1 .1 .1 .0, (k .1 .1 .1 .1 .1 .1 .1 .1 .0, tt)))))))));
+  found = λ t b o. fld t refl (fld t refl (stop t));
+  lies = λ t q b o x. sub t 6 refl (sub t 0 refl (whole t));
+}
+
 -- the stamp of later writes
 abbrev pub with-stamp : ℕ → Record → Record
 with-stamp y x = record { core = record { clocks = x .core .clocks; voice = x .core .voice; a = x .core .a; b = x .core .b; c = x .core .c; selected = x .core .selected; accumulator = x .core .accumulator; stamp = y; start = x .core .start }; queue = x .queue }
@@ -168,4 +222,59 @@ start = record {
   put-is = λ y x y-is is. let k = core-are x is in core-is x (with-start y x .core) is (k .0, (k .1 .0, (k .1 .1 .0, (k .1 .1 .1 .0, (k .1 .1 .1 .1 .0, (k .1 .1 .1 .1 .1 .0, (k .1 .1 .1 .1 .1 .1 .0, (k .1 .1 .1 .1 .1 .1 .1 .0, (y-is, tt)))))))));
   found = λ t b o. fld t refl (fld t refl (stop t));
   lies = λ t q b o x. sub t 8 refl (sub t 0 refl (whole t));
+}
+
+-- the ring's registers, its place and its count
+abbrev pub with-registers : List ℕ → Record → Record
+with-registers y x = record { core = x .core; queue = record { stamps = x .queue .stamps; registers = y; values = x .queue .values; head = x .queue .head; count = x .queue .count } }
+
+abbrev pub registers : Part lent
+registers = record {
+  X = bytesf 256;
+  path = field 1 ∷ field 1 ∷ [];
+  at = λ o. (o + offset record-laws.mir 1) + offset queue-laws.mir 1;
+  of = λ x. map (λ v. v) (x .queue .registers);
+  put = with-registers;
+  with = λ u x. with-path (1 ∷ 1 ∷ []) (whole-val lent x) u;
+  with-put = λ y x. ap (λ (l : List ℕ). with-path (1 ∷ 1 ∷ []) (whole-val lent x) (val-of (bytesf 256) l)) (sym (map-same y));
+  of-is = λ x is. queue-are x is .1 .0;
+  put-is = λ y x y-is is. let k = queue-are x is in queue-is x (with-registers y x .queue) is (k .0, (subst (λ (l : List ℕ). Is (row (bytesf 256)) l (vals (bytesf 256) l)) (sym (map-same y)) y-is, (k .1 .1 .0, (k .1 .1 .1 .0, (k .1 .1 .1 .1 .0, tt)))));
+  found = λ t b o. fld t refl (fld t refl (stop t));
+  lies = λ t q b o x. sub t 1 refl (sub t 1 refl (whole t));
+}
+
+abbrev pub with-head : ℕ → Record → Record
+with-head y x = record { core = x .core; queue = record { stamps = x .queue .stamps; registers = x .queue .registers; values = x .queue .values; head = y; count = x .queue .count } }
+
+abbrev pub head : Part lent
+head = record {
+  X = usizef;
+  path = field 1 ∷ field 3 ∷ [];
+  at = λ o. (o + offset record-laws.mir 1) + offset queue-laws.mir 3;
+  of = λ x. x .queue .head;
+  put = with-head;
+  with = λ u x. with-path (1 ∷ 3 ∷ []) (whole-val lent x) u;
+  with-put = λ y x. refl;
+  of-is = λ x is. queue-are x is .1 .1 .1 .0;
+  put-is = λ y x y-is is. let k = queue-are x is in queue-is x (with-head y x .queue) is (k .0, (k .1 .0, (k .1 .1 .0, (y-is, (k .1 .1 .1 .1 .0, tt)))));
+  found = λ t b o. fld t refl (fld t refl (stop t));
+  lies = λ t q b o x. sub t 3 refl (sub t 1 refl (whole t));
+}
+
+abbrev pub with-count : ℕ → Record → Record
+with-count y x = record { core = x .core; queue = record { stamps = x .queue .stamps; registers = x .queue .registers; values = x .queue .values; head = x .queue .head; count = y } }
+
+abbrev pub count : Part lent
+count = record {
+  X = usizef;
+  path = field 1 ∷ field 4 ∷ [];
+  at = λ o. (o + offset record-laws.mir 1) + offset queue-laws.mir 4;
+  of = λ x. x .queue .count;
+  put = with-count;
+  with = λ u x. with-path (1 ∷ 4 ∷ []) (whole-val lent x) u;
+  with-put = λ y x. refl;
+  of-is = λ x is. queue-are x is .1 .1 .1 .1 .0;
+  put-is = λ y x y-is is. let k = queue-are x is in queue-is x (with-count y x .queue) is (k .0, (k .1 .0, (k .1 .1 .0, (k .1 .1 .1 .0, (y-is, tt)))));
+  found = λ t b o. fld t refl (fld t refl (stop t));
+  lies = λ t q b o x. sub t 4 refl (sub t 1 refl (whole t));
 }

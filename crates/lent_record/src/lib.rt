@@ -8,12 +8,13 @@ use c_record::Record;
 pub fn in_range(lent: &Record) -> bool
     ensures { λ r. ⌜ r ≡ chipIn (chipOf (now (lent .entry))) ⌝ }
 {
-    record_in(*lent)
-}
-
-// The one caller is `in_range`, so that the compiler reads the record where it lies.
-fn record_in(lent: Record) -> bool
-    ensures { λ r. ⌜ r ≡ chipIn (chipOf lent) ⌝ }
-{
-    chip::in_range(c_record::chip_of(lent))
+    chip::parts_in(
+        lent.core.clocks,
+        lent.core.accumulator,
+        lent.core.voice,
+        lent.core.selected,
+        lent.queue.registers,
+        lent.queue.head,
+        lent.queue.count,
+    )
 }

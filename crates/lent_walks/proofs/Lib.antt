@@ -2,3 +2,4 @@ pub mod Owning
 pub mod Parts
 pub mod Stored
 pub mod Read
+pub mod Take
