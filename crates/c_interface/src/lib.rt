@@ -63,9 +63,21 @@ pub extern "C" fn ym2149_write_register(chip: &mut Record, register: u8, value: 
     ensures { λ r. ⌜ (r ≡ onRecord (writeRegister register value) (now (chip .entry)) .no)
         × (now (chip .exit) ≡ onRecord (writeRegister register value) (now (chip .entry)) .chip) ⌝ }
 {
-    let r = c_calls::write_register(*chip, register, value);
-    *chip = r.chip;
-    r.no
+    let ok = lent_record::in_range(&*chip);
+    let written = c_steps::write_register(
+        ok,
+        chip.core.a.drum,
+        chip.core.b.drum,
+        chip.core.c.drum,
+        chip.core.voice,
+        register,
+        value,
+    );
+    chip.core.a.drum = written.a;
+    chip.core.b.drum = written.b;
+    chip.core.c.drum = written.c;
+    chip.core.voice = written.voice;
+    written.no
 }
 
 #[no_mangle]
@@ -73,9 +85,20 @@ pub extern "C" fn ym2149_load_registers(chip: &mut Record, registers: Registers)
     ensures { λ r. ⌜ (r ≡ onRecord (loadRegisters (registers .bytes)) (now (chip .entry)) .no)
         × (now (chip .exit) ≡ onRecord (loadRegisters (registers .bytes)) (now (chip .entry)) .chip) ⌝ }
 {
-    let r = c_calls::load_registers(*chip, registers);
-    *chip = r.chip;
-    r.no
+    let ok = lent_record::in_range(&*chip);
+    let loaded = c_steps::load_registers(
+        ok,
+        chip.core.a.drum,
+        chip.core.b.drum,
+        chip.core.c.drum,
+        chip.core.voice,
+        registers,
+    );
+    chip.core.a.drum = loaded.a;
+    chip.core.b.drum = loaded.b;
+    chip.core.c.drum = loaded.c;
+    chip.core.voice = loaded.voice;
+    loaded.no
 }
 
 #[no_mangle]

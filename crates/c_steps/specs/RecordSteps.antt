@@ -9,6 +9,8 @@ use Rattle.steps_cycles.specs.declared.Stamped.{Stamped}
 use Rattle.steps_cycles.specs.declared.Synced.{Synced}
 use Rattle.c_steps.specs.declared.RecordStamped.{RecordStamped}
 use Rattle.c_steps.specs.declared.RecordSynced.{RecordSynced}
+use Rattle.c_steps.specs.declared.RecordVoiced.{RecordVoiced}
+use Rattle.steps_voice.specs.declared.Voiced.{Voiced}
 
 -- A refused call changes nothing; an accepted one leaves the drum that the record holds, and one that is off has no level.
 unfoldable pub settled : ℕ → RecordDrum → RecordDrum
@@ -19,3 +21,6 @@ recordStamped a b c s = record { a = settled (s .no) a; b = settled (s .no) b; c
 
 abbrev pub recordSynced : RecordDrum → RecordDrum → RecordDrum → Synced → RecordSynced
 recordSynced a b c s = record { a = settled (s .no) a; b = settled (s .no) b; c = settled (s .no) c; stamp = s .stamp; start = s .start; no = s .no }
+
+abbrev pub recordVoiced : RecordDrum → RecordDrum → RecordDrum → Voiced → RecordVoiced
+recordVoiced a b c v = record { a = settled (v .no) a; b = settled (v .no) b; c = settled (v .no) c; voice = v .voice; no = v .no }

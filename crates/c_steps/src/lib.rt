@@ -2,8 +2,13 @@
 // level 0. `ok` is the test of the record. 01, "Registers and ports" and "Numbers a call can answer".
 ghost use mathlib.Core.Path.{_≡_};
 ghost use Rattle.steps_cycles.specs.CycleSteps.{bothSet, stampSet};
-ghost use Rattle.c_steps.specs.RecordSteps.{recordStamped, recordSynced, settled};
+ghost use Rattle.registers.specs.Registers.{applyRegister};
+ghost use Rattle.registers.specs.Writes.{loaded};
+ghost use Rattle.steps_voice.specs.VoiceSteps.{voiced};
+ghost use Rattle.c_steps.specs.RecordSteps.{recordStamped, recordSynced, recordVoiced, settled};
 use c_record::RecordDrum;
+use c_record::Registers;
+use registers::Voice;
 
 // The drums and the stamp to store, and the call's number.
 pub struct RecordStamped {
@@ -21,6 +26,15 @@ pub struct RecordSynced {
     pub c: RecordDrum,
     pub stamp: u64,
     pub start: u64,
+    pub no: u8,
+}
+
+// The drums and the voice to store, and the call's number.
+pub struct RecordVoiced {
+    pub a: RecordDrum,
+    pub b: RecordDrum,
+    pub c: RecordDrum,
+    pub voice: Voice,
     pub no: u8,
 }
 
@@ -62,6 +76,50 @@ pub fn sync_sample_cycle(
         c: settled(r.no, c),
         stamp: r.stamp,
         start: r.start,
+        no: r.no,
+    }
+}
+
+pub fn write_register(
+    ok: bool,
+    a: RecordDrum,
+    b: RecordDrum,
+    c: RecordDrum,
+    voice: Voice,
+    register: u8,
+    value: u8,
+) -> RecordVoiced
+    ensures { λ r. ⌜ r ≡ recordVoiced a b c (voiced ok voice (applyRegister register value voice)) ⌝ }
+{
+    let r = steps_voice::write_register(ok, voice, register, value);
+    let after = r.voice;
+    RecordVoiced {
+        a: settled(r.no, a),
+        b: settled(r.no, b),
+        c: settled(r.no, c),
+        voice: after,
+        no: r.no,
+    }
+}
+
+pub fn load_registers(
+    ok: bool,
+    a: RecordDrum,
+    b: RecordDrum,
+    c: RecordDrum,
+    voice: Voice,
+    registers: Registers,
+) -> RecordVoiced
+    ensures { λ r. ⌜ r ≡ recordVoiced a b c (voiced ok voice (loaded (registers .bytes) voice)) ⌝ }
+{
+    let bytes = registers.bytes;
+    let r = steps_voice::load_registers(ok, voice, bytes);
+    let after = r.voice;
+    RecordVoiced {
+        a: settled(r.no, a),
+        b: settled(r.no, b),
+        c: settled(r.no, c),
+        voice: after,
         no: r.no,
     }
 }

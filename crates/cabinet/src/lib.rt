@@ -29,8 +29,9 @@ pub fn write_register(chip: &mut Chip, register: u8, value: u8) -> u8
     ensures { λ r. ⌜ (r ≡ writeRegister register value (now (chip .entry)) .no)
         × (now (chip .exit) ≡ writeRegister register value (now (chip .entry)) .chip) ⌝ }
 {
-    let r = calls_registers::write_register(*chip, register, value);
-    *chip = r.chip;
+    let ok = lent_chip::in_range(&*chip);
+    let r = steps_voice::write_register(ok, chip.core.voice, register, value);
+    chip.core.voice = r.voice;
     r.no
 }
 
@@ -38,8 +39,9 @@ pub fn load_registers(chip: &mut Chip, bytes: [u8; 16]) -> u8
     ensures { λ r. ⌜ (r ≡ loadRegisters bytes (now (chip .entry)) .no)
         × (now (chip .exit) ≡ loadRegisters bytes (now (chip .entry)) .chip) ⌝ }
 {
-    let r = calls_registers::load_registers(*chip, bytes);
-    *chip = r.chip;
+    let ok = lent_chip::in_range(&*chip);
+    let r = steps_voice::load_registers(ok, chip.core.voice, bytes);
+    chip.core.voice = r.voice;
     r.no
 }
 
