@@ -116,9 +116,23 @@ pub extern "C" fn ym2149_write_port_immediate(chip: &mut Record, port: u8, value
     ensures { λ r. ⌜ (r ≡ onRecord (writePortImmediate port value) (now (chip .entry)) .no)
         × (now (chip .exit) ≡ onRecord (writePortImmediate port value) (now (chip .entry)) .chip) ⌝ }
 {
-    let r = c_calls::write_port_immediate(*chip, port, value);
-    *chip = r.chip;
-    r.no
+    let ok = lent_record::in_range(&*chip);
+    let port_written = c_steps::write_port_immediate(
+        ok,
+        chip.core.a.drum,
+        chip.core.b.drum,
+        chip.core.c.drum,
+        chip.core.voice,
+        chip.core.selected,
+        port,
+        value,
+    );
+    chip.core.a.drum = port_written.a;
+    chip.core.b.drum = port_written.b;
+    chip.core.c.drum = port_written.c;
+    chip.core.voice = port_written.voice;
+    chip.core.selected = port_written.selected;
+    port_written.no
 }
 
 #[no_mangle]

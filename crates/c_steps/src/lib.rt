@@ -4,8 +4,8 @@ ghost use mathlib.Core.Path.{_≡_};
 ghost use Rattle.steps_cycles.specs.CycleSteps.{bothSet, stampSet};
 ghost use Rattle.registers.specs.Registers.{applyRegister};
 ghost use Rattle.registers.specs.Writes.{loaded};
-ghost use Rattle.steps_voice.specs.VoiceSteps.{voiced};
-ghost use Rattle.c_steps.specs.RecordSteps.{recordStamped, recordSynced, recordVoiced, settled};
+ghost use Rattle.steps_voice.specs.VoiceSteps.{portWritten, voiced};
+ghost use Rattle.c_steps.specs.RecordSteps.{recordPort, recordStamped, recordSynced, recordVoiced, settled};
 use c_record::RecordDrum;
 use c_record::Registers;
 use registers::Voice;
@@ -35,6 +35,16 @@ pub struct RecordVoiced {
     pub b: RecordDrum,
     pub c: RecordDrum,
     pub voice: Voice,
+    pub no: u8,
+}
+
+// The drums, the voice and the selection to store, and the call's number.
+pub struct RecordPort {
+    pub a: RecordDrum,
+    pub b: RecordDrum,
+    pub c: RecordDrum,
+    pub voice: Voice,
+    pub selected: u8,
     pub no: u8,
 }
 
@@ -120,6 +130,30 @@ pub fn load_registers(
         b: settled(r.no, b),
         c: settled(r.no, c),
         voice: after,
+        no: r.no,
+    }
+}
+
+pub fn write_port_immediate(
+    ok: bool,
+    a: RecordDrum,
+    b: RecordDrum,
+    c: RecordDrum,
+    voice: Voice,
+    selected: u8,
+    port: u8,
+    value: u8,
+) -> RecordPort
+    ensures { λ r. ⌜ r ≡ recordPort a b c (portWritten ok voice selected port value) ⌝ }
+{
+    let r = steps_voice::write_port_immediate(ok, voice, selected, port, value);
+    let after = r.voice;
+    RecordPort {
+        a: settled(r.no, a),
+        b: settled(r.no, b),
+        c: settled(r.no, c),
+        voice: after,
+        selected: r.selected,
         no: r.no,
     }
 }

@@ -58,8 +58,10 @@ pub fn write_port_immediate(chip: &mut Chip, port: u8, value: u8) -> u8
     ensures { λ r. ⌜ (r ≡ writePortImmediate port value (now (chip .entry)) .no)
         × (now (chip .exit) ≡ writePortImmediate port value (now (chip .entry)) .chip) ⌝ }
 {
-    let r = calls_ports::write_port_immediate(*chip, port, value);
-    *chip = r.chip;
+    let ok = lent_chip::in_range(&*chip);
+    let r = steps_voice::write_port_immediate(ok, chip.core.voice, chip.core.selected, port, value);
+    chip.core.voice = r.voice;
+    chip.core.selected = r.selected;
     r.no
 }
 

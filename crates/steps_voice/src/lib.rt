@@ -2,12 +2,19 @@
 ghost use mathlib.Core.Path.{_≡_};
 ghost use Rattle.registers.specs.Registers.{applyRegister};
 ghost use Rattle.registers.specs.Writes.{loaded};
-ghost use Rattle.steps_voice.specs.VoiceSteps.{voiced};
+ghost use Rattle.steps_voice.specs.VoiceSteps.{portWritten, voiced};
 use registers::Voice;
 
 // The voice to store, and the call's number.
 pub struct Voiced {
     pub voice: Voice,
+    pub no: u8,
+}
+
+// The voice and the selection to store, and the call's number.
+pub struct PortWritten {
+    pub voice: Voice,
+    pub selected: u8,
     pub no: u8,
 }
 
@@ -39,6 +46,37 @@ pub fn load_registers(ok: bool, voice: Voice, bytes: [u8; 16]) -> Voiced
     let after = all_registers::load_registers(voice, bytes);
     Voiced {
         voice: after,
+        no: refusals::ACCEPTED,
+    }
+}
+
+pub fn write_port_immediate(
+    ok: bool,
+    voice: Voice,
+    selected: u8,
+    port: u8,
+    value: u8,
+) -> PortWritten
+    ensures { λ r. ⌜ r ≡ portWritten ok voice selected port value ⌝ }
+{
+    if !ok {
+        return PortWritten {
+            voice,
+            selected,
+            no: refusals::OUT_OF_RANGE,
+        };
+    }
+    if port / 2 % 2 == 0 {
+        return PortWritten {
+            voice,
+            selected: value % 16,
+            no: refusals::ACCEPTED,
+        };
+    }
+    let after = voice.apply_register(selected, value);
+    PortWritten {
+        voice: after,
+        selected,
         no: refusals::ACCEPTED,
     }
 }
