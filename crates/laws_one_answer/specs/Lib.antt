@@ -7,3 +7,4 @@ pub mod Exported
 pub mod Dump
 pub mod Capture
 pub mod Parts
+pub mod Steps

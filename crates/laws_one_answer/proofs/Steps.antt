@@ -1,0 +1,24 @@
+-- Each by the law of its promise's form (`Laws`). Assumes nothing.
+use Rattle.laws_one_answer.specs.Steps.{Steps}
+use Rattle.laws_one_answer.proofs.Laws.{by-answer}
+
+pub steps : Steps
+steps =
+    record {
+      ring-in = λ h x y. by-answer (h .𝓤);
+      parts-in = λ h x y. by-answer (h .𝓤);
+      chip-in-range = λ h x y. by-answer (h .𝓤);
+      record-in-range = λ h x y. by-answer (h .𝓤);
+      set-cpu-cycle = λ h x y. by-answer (h .𝓤);
+      sync-sample-cycle = λ h x y. by-answer (h .𝓤);
+      cpu-cycle = λ h x y. by-answer (h .𝓤);
+      pending-write-count = λ h x y. by-answer (h .𝓤);
+      write-register = λ h x y. by-answer (h .𝓤);
+      load-registers = λ h x y. by-answer (h .𝓤);
+      write-port-immediate = λ h x y. by-answer (h .𝓤);
+      c-set-cpu-cycle = λ h x y. by-answer (h .𝓤);
+      c-sync-sample-cycle = λ h x y. by-answer (h .𝓤);
+      c-write-register = λ h x y. by-answer (h .𝓤);
+      c-load-registers = λ h x y. by-answer (h .𝓤);
+      c-write-port-immediate = λ h x y. by-answer (h .𝓤);
+    }

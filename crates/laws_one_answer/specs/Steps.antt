@@ -1,0 +1,36 @@
+-- Every call of `steps_*`, `c_steps`, `lent_chip` and `lent_record` is settled, and the two tests by parts (`Settled`). Assumes nothing.
+use Rattle.queue.proofs.ring_in as ring-in
+use Rattle.chip.proofs.parts_in as parts-in
+use Rattle.lent_chip.proofs.in_range as chip-in-range
+use Rattle.lent_record.proofs.in_range as record-in-range
+use Rattle.steps_cycles.proofs.set_cpu_cycle as set-cpu-cycle
+use Rattle.steps_cycles.proofs.sync_sample_cycle as sync-sample-cycle
+use Rattle.steps_cycles.proofs.cpu_cycle as cpu-cycle
+use Rattle.steps_cycles.proofs.pending_write_count as pending-write-count
+use Rattle.steps_voice.proofs.write_register as write-register
+use Rattle.steps_voice.proofs.load_registers as load-registers
+use Rattle.steps_voice.proofs.write_port_immediate as write-port-immediate
+use Rattle.c_steps.proofs.set_cpu_cycle as c-set-cpu-cycle
+use Rattle.c_steps.proofs.sync_sample_cycle as c-sync-sample-cycle
+use Rattle.c_steps.proofs.write_register as c-write-register
+use Rattle.c_steps.proofs.load_registers as c-load-registers
+use Rattle.c_steps.proofs.write_port_immediate as c-write-port-immediate
+use Rattle.laws_one_answer.specs.Settled.{Settles}
+
+pub record Steps : Type 2 where
+  pub ring-in : Settles ring-in.ended (λ M. ring-in.clauses)
+  pub parts-in : Settles parts-in.ended (λ M. parts-in.clauses)
+  pub chip-in-range : Settles chip-in-range.ended (λ M. chip-in-range.clauses)
+  pub record-in-range : Settles record-in-range.ended (λ M. record-in-range.clauses)
+  pub set-cpu-cycle : Settles set-cpu-cycle.ended (λ M. set-cpu-cycle.clauses)
+  pub sync-sample-cycle : Settles sync-sample-cycle.ended (λ M. sync-sample-cycle.clauses)
+  pub cpu-cycle : Settles cpu-cycle.ended (λ M. cpu-cycle.clauses)
+  pub pending-write-count : Settles pending-write-count.ended (λ M. pending-write-count.clauses)
+  pub write-register : Settles write-register.ended (λ M. write-register.clauses)
+  pub load-registers : Settles load-registers.ended (λ M. load-registers.clauses)
+  pub write-port-immediate : Settles write-port-immediate.ended (λ M. write-port-immediate.clauses)
+  pub c-set-cpu-cycle : Settles c-set-cpu-cycle.ended (λ M. c-set-cpu-cycle.clauses)
+  pub c-sync-sample-cycle : Settles c-sync-sample-cycle.ended (λ M. c-sync-sample-cycle.clauses)
+  pub c-write-register : Settles c-write-register.ended (λ M. c-write-register.clauses)
+  pub c-load-registers : Settles c-load-registers.ended (λ M. c-load-registers.clauses)
+  pub c-write-port-immediate : Settles c-write-port-immediate.ended (λ M. c-write-port-immediate.clauses)
