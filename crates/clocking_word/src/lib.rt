@@ -38,7 +38,7 @@ pub fn word<'t>(
     ensures { λ r. ⌜ r ≡ smallOf (wordOf core (ring (now (stamps .entry)) (now (registers .entry)) (now (values .entry)) head count)) ⌝ }
 {
     let end = core.start + core.clocks.cycles;
-    let drained = queue_drain::drain(core.voice, stamps, registers, values, head, count, end);
+    let drained = queue_drain::drain_due(core.voice, stamps, registers, values, head, count, end);
     let mut voice = drained.voice;
     let ran = clocking_ticks::run_ticks(
         voice.generators,

@@ -81,6 +81,7 @@ parts =
       queue-flush = λ h x y. by-answer (h .𝓤);
       queue-emptied = λ h x y. by-answer (h .𝓤);
       drain = λ h x y. both (h .𝓤) (λ p q i. (same (p .small) (q .small) i, x .1));
+      drain-due = λ h x y. both (h .𝓤) (λ p q i. (same (p .small) (q .small) i, x .1));
       run-ticks = λ h x y. by-answer (h .𝓤);
       word = λ h x y. by-answer (h .𝓤);
       sum-word = λ h x y. by-answer (h .𝓤);

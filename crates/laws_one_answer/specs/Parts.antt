@@ -74,6 +74,7 @@ use Rattle.queue.proofs.Queue.push as queue-push
 use Rattle.queue_flush.proofs.flush as queue-flush
 use Rattle.queue.proofs.Queue.emptied as queue-emptied
 use Rattle.queue_drain.proofs.drain
+use Rattle.queue_drain.proofs.drain_due as drain-due
 use Rattle.clocking_ticks.proofs.run_ticks as run-ticks
 use Rattle.word_sum.proofs.word as sum-word
 use Rattle.word_sum.proofs.part as sum-part
@@ -175,6 +176,7 @@ pub record Parts : Type 2 where
   pub queue-flush : Settles queue-flush.ended (λ M. queue-flush.clauses)
   pub queue-emptied : Settles queue-emptied.ended (λ M. queue-emptied.clauses)
   pub drain : Settles drain.ended (λ M. drain.clauses)
+  pub drain-due : Settles drain-due.ended (λ M. drain-due.clauses)
   pub run-ticks : Settles run-ticks.ended (λ M. run-ticks.clauses)
   pub word : Settles word.ended (λ M. word.clauses)
   pub sum-word : Settles sum-word.ended (λ M. sum-word.clauses)

@@ -140,7 +140,9 @@ fn one_by_one(
     requires { ⌜ QueueInRange (ring (now stamps) (now registers) (now values) head count) ⌝ }
     ensures { λ r. ⌜ Drains end voice (ring (now (stamps .entry)) (now (registers .entry)) (now (values .entry)) head count) (drainedWith voice r) ⌝ }
 {
-    let drained = drain_due(voice, stamps, registers, values, head, count, end);
+    // a copy: what is lent to a call lies in memory, and the voice of a block need not
+    let held = voice;
+    let drained = drain_due(held, stamps, registers, values, head, count, end);
     let v = drained.voice;
     let bytes = v.registers;
     let settings = settling::settings_of(v.generators, v.gates);
@@ -152,7 +154,8 @@ fn one_by_one(
     }
 }
 
-fn drain_due(
+// The same, each write by itself: a word that stands alone is drained by this, so that `drain` has one caller in a program.
+pub fn drain_due(
     voice: Voice,
     stamps: &[u64; 256],
     registers: &[u8; 256],
