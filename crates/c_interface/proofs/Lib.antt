@@ -1,3 +1,4 @@
 pub mod Making
 pub mod Stamps
 pub mod Voices
+pub mod Said

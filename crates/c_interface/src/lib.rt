@@ -268,21 +268,24 @@ pub extern "C" fn ym2149_block(chip: &mut Record, out: &mut [u16]) -> Played
 pub extern "C" fn ym2149_read_register(chip: &Record, register: u8) -> Byte
     ensures { λ r. ⌜ r ≡ readRegister register (chipOf (now (chip .entry))) ⌝ }
 {
-    c_calls::read_register(*chip, register)
+    let ok = lent_record::in_range(chip);
+    steps_registers::read_register(ok, chip.core.voice.registers, register)
 }
 
 #[no_mangle]
 pub extern "C" fn ym2149_dump_registers(chip: &Record) -> Bytes
     ensures { λ r. ⌜ r ≡ dumpRegisters (chipOf (now (chip .entry))) ⌝ }
 {
-    c_calls::dump_registers(*chip)
+    let ok = lent_record::in_range(chip);
+    steps_registers::dump_registers(ok, chip.core.voice.registers)
 }
 
 #[no_mangle]
 pub extern "C" fn ym2149_read_port(chip: &Record, port: u8) -> Byte
     ensures { λ r. ⌜ r ≡ readPort port (chipOf (now (chip .entry))) ⌝ }
 {
-    c_calls::read_port(*chip, port)
+    let ok = lent_record::in_range(chip);
+    steps_registers::read_port(ok, chip.core.voice.registers, chip.core.selected, port)
 }
 
 #[no_mangle]
@@ -305,12 +308,25 @@ pub extern "C" fn ym2149_pending_write_count(chip: &Record) -> Count
 pub extern "C" fn ym2149_is_channel_muted(chip: &Record, channel: usize) -> Flag
     ensures { λ r. ⌜ r ≡ isChannelMuted channel (chipOf (now (chip .entry))) ⌝ }
 {
-    c_calls::is_channel_muted(*chip, channel)
+    let ok = lent_record::in_range(chip);
+    steps_channels::is_channel_muted(
+        ok,
+        chip.core.a.muted,
+        chip.core.b.muted,
+        chip.core.c.muted,
+        channel,
+    )
 }
 
 #[no_mangle]
 pub extern "C" fn ym2149_get_channel_outputs(chip: &Record) -> Outputs
     ensures { λ r. ⌜ r ≡ getChannelOutputs (chipOf (now (chip .entry))) ⌝ }
 {
-    c_calls::get_channel_outputs(*chip)
+    let ok = lent_record::in_range(chip);
+    steps_channels::get_channel_outputs(
+        ok,
+        chip.core.a.output,
+        chip.core.b.output,
+        chip.core.c.output,
+    )
 }

@@ -143,19 +143,22 @@ pub fn set_drum_sample_override(chip: &mut Chip, channel: usize, drum: Drum) -> 
 pub fn read_register(chip: &Chip, register: u8) -> Byte
     ensures { λ r. ⌜ r ≡ readRegister register (now (chip .entry)) ⌝ }
 {
-    calls_registers::read_register(*chip, register)
+    let ok = lent_chip::in_range(chip);
+    steps_registers::read_register(ok, chip.core.voice.registers, register)
 }
 
 pub fn dump_registers(chip: &Chip) -> Bytes
     ensures { λ r. ⌜ r ≡ dumpRegisters (now (chip .entry)) ⌝ }
 {
-    calls_registers::dump_registers(*chip)
+    let ok = lent_chip::in_range(chip);
+    steps_registers::dump_registers(ok, chip.core.voice.registers)
 }
 
 pub fn read_port(chip: &Chip, port: u8) -> Byte
     ensures { λ r. ⌜ r ≡ readPort port (now (chip .entry)) ⌝ }
 {
-    calls_ports::read_port(*chip, port)
+    let ok = lent_chip::in_range(chip);
+    steps_registers::read_port(ok, chip.core.voice.registers, chip.core.selected, port)
 }
 
 pub fn cpu_cycle(chip: &Chip) -> Cycle
@@ -175,11 +178,24 @@ pub fn pending_write_count(chip: &Chip) -> Count
 pub fn is_channel_muted(chip: &Chip, channel: usize) -> Flag
     ensures { λ r. ⌜ r ≡ isChannelMuted channel (now (chip .entry)) ⌝ }
 {
-    calls_channels::is_channel_muted(*chip, channel)
+    let ok = lent_chip::in_range(chip);
+    steps_channels::is_channel_muted(
+        ok,
+        chip.core.channels.a.muted,
+        chip.core.channels.b.muted,
+        chip.core.channels.c.muted,
+        channel,
+    )
 }
 
 pub fn get_channel_outputs(chip: &Chip) -> Outputs
     ensures { λ r. ⌜ r ≡ getChannelOutputs (now (chip .entry)) ⌝ }
 {
-    calls_channels::get_channel_outputs(*chip)
+    let ok = lent_chip::in_range(chip);
+    steps_channels::get_channel_outputs(
+        ok,
+        chip.core.channels.a.output,
+        chip.core.channels.b.output,
+        chip.core.channels.c.output,
+    )
 }

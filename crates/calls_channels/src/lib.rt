@@ -17,16 +17,9 @@ pub fn set_channel_mute(chip: Chip, channel: usize, muted: bool) -> Answered
 pub fn is_channel_muted(chip: Chip, channel: usize) -> Flag
     ensures { λ r. ⌜ r ≡ isChannelMuted channel chip ⌝ }
 {
-    if !chip::in_range(chip) {
-        return Flag {
-            no: refusals::OUT_OF_RANGE,
-            yes: false,
-        };
-    }
-    Flag {
-        no: refusals::ACCEPTED,
-        yes: chip.core.channels.is_muted(channel),
-    }
+    let ok = chip::in_range(chip);
+    let s = chip.core.channels;
+    steps_channels::is_channel_muted(ok, s.a.muted, s.b.muted, s.c.muted, channel)
 }
 
 pub fn set_drum_sample_override(chip: Chip, channel: usize, drum: Drum) -> Answered
@@ -42,21 +35,9 @@ pub fn set_drum_sample_override(chip: Chip, channel: usize, drum: Drum) -> Answe
 pub fn get_channel_outputs(chip: Chip) -> Outputs
     ensures { λ r. ⌜ r ≡ getChannelOutputs chip ⌝ }
 {
-    if !chip::in_range(chip) {
-        return Outputs {
-            no: refusals::OUT_OF_RANGE,
-            a: 0.0,
-            b: 0.0,
-            c: 0.0,
-        };
-    }
-    let channels = chip.core.channels;
-    Outputs {
-        no: refusals::ACCEPTED,
-        a: channels.a.output,
-        b: channels.b.output,
-        c: channels.c.output,
-    }
+    let ok = chip::in_range(chip);
+    let s = chip.core.channels;
+    steps_channels::get_channel_outputs(ok, s.a.output, s.b.output, s.c.output)
 }
 
 // The channels are set, unless there is no such channel.

@@ -42,27 +42,10 @@ pub fn write_port_immediate(chip: Chip, port: u8, value: u8) -> Answered
 pub fn read_port(chip: Chip, port: u8) -> Byte
     ensures { λ r. ⌜ r ≡ readPort port chip ⌝ }
 {
-    if !chip::in_range(chip) {
-        return Byte {
-            no: refusals::OUT_OF_RANGE,
-            value: 0,
-        };
-    }
-    let selected = chip.core.selected;
-    if bit_1_clear(port) {
-        if selected < registers::REGISTERS {
-            let at = selected as usize;
-            let voice = chip.core.voice;
-            return Byte {
-                no: refusals::ACCEPTED,
-                value: voice.registers[at],
-            };
-        }
-    }
-    Byte {
-        no: refusals::ACCEPTED,
-        value: 0xff,
-    }
+    let ok = chip::in_range(chip);
+    let voice = chip.core.voice;
+    let bytes = voice.registers;
+    steps_registers::read_port(ok, bytes, chip.core.selected, port)
 }
 
 fn bit_1_clear(port: u8) -> bool

@@ -1,9 +1,9 @@
 -- Register writes and reads. 01, "Registers and ports". Assumes nothing.
 use Prim.Native.Nat.{ℕ}
 use lib.Dec.{ltb}
-use lib.ListN.{getD, replicate}
+use lib.ListN.{replicate}
 use mathlib.Core.Bool.{cond}
-use mathlib.Core.List.{List, [], _∷_}
+use mathlib.Core.List.{List}
 use Rattle.answers.specs.Answers.{byteAnswer, does}
 use Rattle.chip_parts.specs.Parts.{onVoice, voiceOf}
 use Rattle.answers.specs.declared.Answered.{Answered}
@@ -14,6 +14,7 @@ use Rattle.chip.specs.Range.{chipIn}
 use Rattle.refusals.specs.Numbers.{accepted, outOfRange}
 use Rattle.registers.specs.Registers.{applyRegister, byteAt}
 use Rattle.registers.specs.Writes.{loaded}
+use Rattle.steps_registers.specs.RegisterSteps.{padded}
 
 unfoldable pub writeRegister : ℕ → ℕ → Chip → Answered
 writeRegister register value c = does (onVoice (applyRegister register value)) c
@@ -28,12 +29,6 @@ readRegister register c =
 -- `load_registers` writes bytes 0 to 13 in order.
 unfoldable pub loadRegisters : List ℕ → Chip → Answered
 loadRegisters bytes c = does (onVoice (loaded bytes)) c
-
--- the fourteen bytes, and two zeros
-unfoldable pub padded : List ℕ → List ℕ
-padded r =
-    getD r 0 0 ∷ getD r 1 0 ∷ getD r 2 0 ∷ getD r 3 0 ∷ getD r 4 0 ∷ getD r 5 0 ∷ getD r 6 0 ∷ getD r 7 0 ∷ getD r 8 0 ∷ getD r 9 0
-    ∷ getD r 10 0 ∷ getD r 11 0 ∷ getD r 12 0 ∷ getD r 13 0 ∷ 0 ∷ 0 ∷ []
 
 unfoldable pub dumpRegisters : Chip → Bytes
 dumpRegisters c =

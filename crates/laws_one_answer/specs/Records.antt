@@ -8,12 +8,7 @@ use Rattle.c_record.proofs.drum_of as drum-of
 use Rattle.c_making.proofs.new
 use Rattle.c_making.proofs.with_clocks as with-clocks
 use Rattle.c_calls.proofs.reset
-use Rattle.c_calls.proofs.write_register as write-register
-use Rattle.c_calls.proofs.load_registers as load-registers
 use Rattle.c_calls.proofs.write_port as write-port
-use Rattle.c_calls.proofs.write_port_immediate as write-port-immediate
-use Rattle.c_calls.proofs.set_cpu_cycle as set-cpu-cycle
-use Rattle.c_calls.proofs.sync_sample_cycle as sync-sample-cycle
 use Rattle.c_calls.proofs.flush_pending_writes as flush-pending-writes
 use Rattle.c_calls.proofs.set_timer_irq_state as set-timer-irq-state
 use Rattle.c_calls.proofs.inside_timer_irq as inside-timer-irq
@@ -22,13 +17,6 @@ use Rattle.c_calls.proofs.set_channel_mute as set-channel-mute
 use Rattle.c_calls.proofs.set_drum_sample_override as set-drum-sample-override
 use Rattle.c_words.proofs.compute_next_sample as compute-next-sample
 use Rattle.c_words.proofs.block
-use Rattle.c_calls.proofs.read_register as read-register
-use Rattle.c_calls.proofs.dump_registers as dump-registers
-use Rattle.c_calls.proofs.read_port as read-port
-use Rattle.c_calls.proofs.cpu_cycle as cpu-cycle
-use Rattle.c_calls.proofs.pending_write_count as pending-write-count
-use Rattle.c_calls.proofs.is_channel_muted as is-channel-muted
-use Rattle.c_calls.proofs.get_channel_outputs as get-channel-outputs
 use Rattle.laws_one_answer.specs.Settled.{Settles}
 
 pub record Held : Type 2 where
@@ -41,12 +29,7 @@ pub record Held : Type 2 where
   pub new : Settles new.ended (λ M. new.clauses)
   pub with-clocks : Settles with-clocks.ended (λ M. with-clocks.clauses)
   pub reset : Settles reset.ended (λ M. reset.clauses)
-  pub write-register : Settles write-register.ended (λ M. write-register.clauses)
-  pub load-registers : Settles load-registers.ended (λ M. load-registers.clauses)
   pub write-port : Settles write-port.ended (λ M. write-port.clauses)
-  pub write-port-immediate : Settles write-port-immediate.ended (λ M. write-port-immediate.clauses)
-  pub set-cpu-cycle : Settles set-cpu-cycle.ended (λ M. set-cpu-cycle.clauses)
-  pub sync-sample-cycle : Settles sync-sample-cycle.ended (λ M. sync-sample-cycle.clauses)
   pub flush-pending-writes : Settles flush-pending-writes.ended (λ M. flush-pending-writes.clauses)
   pub set-timer-irq-state : Settles set-timer-irq-state.ended (λ M. set-timer-irq-state.clauses)
   pub inside-timer-irq : Settles inside-timer-irq.ended (λ M. inside-timer-irq.clauses)
@@ -55,10 +38,3 @@ pub record Held : Type 2 where
   pub set-drum-sample-override : Settles set-drum-sample-override.ended (λ M. set-drum-sample-override.clauses)
   pub compute-next-sample : Settles compute-next-sample.ended (λ M. compute-next-sample.clauses)
   pub block : Settles block.ended (λ M. block.clauses)
-  pub read-register : Settles read-register.ended (λ M. read-register.clauses)
-  pub dump-registers : Settles dump-registers.ended (λ M. dump-registers.clauses)
-  pub read-port : Settles read-port.ended (λ M. read-port.clauses)
-  pub cpu-cycle : Settles cpu-cycle.ended (λ M. cpu-cycle.clauses)
-  pub pending-write-count : Settles pending-write-count.ended (λ M. pending-write-count.clauses)
-  pub is-channel-muted : Settles is-channel-muted.ended (λ M. is-channel-muted.clauses)
-  pub get-channel-outputs : Settles get-channel-outputs.ended (λ M. get-channel-outputs.clauses)

@@ -10,6 +10,11 @@ use Rattle.steps_cycles.proofs.pending_write_count as pending-write-count
 use Rattle.steps_voice.proofs.write_register as write-register
 use Rattle.steps_voice.proofs.load_registers as load-registers
 use Rattle.steps_voice.proofs.write_port_immediate as write-port-immediate
+use Rattle.steps_registers.proofs.read_register as read-register
+use Rattle.steps_registers.proofs.dump_registers as dump-registers
+use Rattle.steps_registers.proofs.read_port as read-port
+use Rattle.steps_channels.proofs.is_channel_muted as is-channel-muted
+use Rattle.steps_channels.proofs.get_channel_outputs as get-channel-outputs
 use Rattle.c_steps.proofs.set_cpu_cycle as c-set-cpu-cycle
 use Rattle.c_steps.proofs.sync_sample_cycle as c-sync-sample-cycle
 use Rattle.c_steps.proofs.write_register as c-write-register
@@ -29,6 +34,11 @@ pub record Steps : Type 2 where
   pub write-register : Settles write-register.ended (λ M. write-register.clauses)
   pub load-registers : Settles load-registers.ended (λ M. load-registers.clauses)
   pub write-port-immediate : Settles write-port-immediate.ended (λ M. write-port-immediate.clauses)
+  pub read-register : Settles read-register.ended (λ M. read-register.clauses)
+  pub dump-registers : Settles dump-registers.ended (λ M. dump-registers.clauses)
+  pub read-port : Settles read-port.ended (λ M. read-port.clauses)
+  pub is-channel-muted : Settles is-channel-muted.ended (λ M. is-channel-muted.clauses)
+  pub get-channel-outputs : Settles get-channel-outputs.ended (λ M. get-channel-outputs.clauses)
   pub c-set-cpu-cycle : Settles c-set-cpu-cycle.ended (λ M. c-set-cpu-cycle.clauses)
   pub c-sync-sample-cycle : Settles c-sync-sample-cycle.ended (λ M. c-sync-sample-cycle.clauses)
   pub c-write-register : Settles c-write-register.ended (λ M. c-write-register.clauses)

@@ -9,8 +9,12 @@ use denote.Laws.{Is, valss}
 use denote.Struct.Struct.{AreAll}
 use denote.Struct.Declared.{Declared, fields}
 use denote.Struct.Laws as LL
-use Rattle.laws.proofs.Flat.{Flat, row, vals, val-of, bytesf, structf, u8f, u32f, u64f, usizef}
+use Rattle.laws.proofs.Flat.{Flat, row, vals, val-of, bytesf, structf, u8f, u32f, u64f, usizef, boolf}
 use Rattle.lent_walks.proofs.Parts.{Part, IsOne, whole-val, map-same, offset, with-path}
+use Rattle.lent_walks.proofs.Places.{Place, here, inside, part, struct, f32f}
+use Rattle.lent_chip.proofs.ChipFields as f
+use Rattle.channel.proofs.Channel as channel′
+use Rattle.channel.proofs.Channel.Laws as channel-laws
 use Rattle.queue.specs.declared.Queue.{Queue}
 use Rattle.queue.proofs.Queue as queue′
 use Rattle.queue.proofs.Queue.Laws as queue-laws
@@ -230,3 +234,34 @@ count = record {
   found = λ t b o. fld t refl (fld t refl (stop t));
   lies = λ t q b o c. sub t 4 refl (sub t 1 refl (whole t));
 }
+
+-- ---- deeper parts: the stored bytes, and each channel's mute and last output
+abbrev pub stored : Part chip
+stored = part (bytesf 14) (inside (inside (inside (here chip) f.core) f.voice) f.registers)
+
+abbrev channel-a : Place chip (struct channel′.the-type channel-laws.the-laws)
+channel-a = inside (inside (inside (here chip) f.core) f.channels) f.a
+
+abbrev channel-b : Place chip (struct channel′.the-type channel-laws.the-laws)
+channel-b = inside (inside (inside (here chip) f.core) f.channels) f.b
+
+abbrev channel-c : Place chip (struct channel′.the-type channel-laws.the-laws)
+channel-c = inside (inside (inside (here chip) f.core) f.channels) f.c
+
+abbrev pub muted-a : Part chip
+muted-a = part boolf (inside channel-a f.muted)
+
+abbrev pub muted-b : Part chip
+muted-b = part boolf (inside channel-b f.muted)
+
+abbrev pub muted-c : Part chip
+muted-c = part boolf (inside channel-c f.muted)
+
+abbrev pub output-a : Part chip
+output-a = part f32f (inside channel-a f.output)
+
+abbrev pub output-b : Part chip
+output-b = part f32f (inside channel-b f.output)
+
+abbrev pub output-c : Part chip
+output-c = part f32f (inside channel-c f.output)

@@ -1,1 +1,2 @@
+pub mod ChipFields
 pub mod ChipParts

@@ -1,1 +1,2 @@
+pub mod RecordFields
 pub mod RecordParts

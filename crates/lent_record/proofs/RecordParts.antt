@@ -9,8 +9,11 @@ use denote.Laws.{Is, valss}
 use denote.Struct.Struct.{AreAll}
 use denote.Struct.Declared.{Declared, fields}
 use denote.Struct.Laws as LL
-use Rattle.laws.proofs.Flat.{Flat, row, vals, val-of, bytesf, structf, u8f, u32f, u64f, usizef}
+use Rattle.laws.proofs.Flat.{Flat, row, vals, val-of, bytesf, structf, u8f, u32f, u64f, usizef, boolf}
 use Rattle.lent_walks.proofs.Parts.{Part, IsOne, whole-val, map-same, offset, with-path}
+use Rattle.lent_walks.proofs.Places.{Place, here, inside, part, struct, f32f}
+use Rattle.lent_chip.proofs.ChipFields as chip
+use Rattle.lent_record.proofs.RecordFields as f
 use Rattle.registers.specs.declared.Voice.{Voice}
 use Rattle.registers.proofs.Voice as voice′
 use Rattle.registers.proofs.Voice.Laws as voice-laws
@@ -278,3 +281,34 @@ count = record {
   found = λ t b o. fld t refl (fld t refl (stop t));
   lies = λ t q b o x. sub t 4 refl (sub t 1 refl (whole t));
 }
+
+-- ---- deeper parts: the stored bytes, and each channel's mute and last output
+abbrev pub stored : Part lent
+stored = part (bytesf 14) (inside (inside (inside (here lent) f.core) f.voice) chip.registers)
+
+abbrev channel-a : Place lent (struct channel′.the-type channel-laws.the-laws)
+channel-a = inside (inside (here lent) f.core) f.a
+
+abbrev channel-b : Place lent (struct channel′.the-type channel-laws.the-laws)
+channel-b = inside (inside (here lent) f.core) f.b
+
+abbrev channel-c : Place lent (struct channel′.the-type channel-laws.the-laws)
+channel-c = inside (inside (here lent) f.core) f.c
+
+abbrev pub muted-a : Part lent
+muted-a = part boolf (inside channel-a f.muted)
+
+abbrev pub muted-b : Part lent
+muted-b = part boolf (inside channel-b f.muted)
+
+abbrev pub muted-c : Part lent
+muted-c = part boolf (inside channel-c f.muted)
+
+abbrev pub output-a : Part lent
+output-a = part f32f (inside channel-a f.output)
+
+abbrev pub output-b : Part lent
+output-b = part f32f (inside channel-b f.output)
+
+abbrev pub output-c : Part lent
+output-c = part f32f (inside channel-c f.output)

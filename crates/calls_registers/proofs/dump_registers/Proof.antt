@@ -1,24 +1,17 @@
--- `calls_registers::dump_registers` meets its contract: the record's test says which case holds. Assumes nothing.
-use mathlib.Core.Path.{refl}
-use Rattle.laws.proofs.Tests.{on-no, on-yes}
-use Rattle.calls_registers.specs.Stored.{dumpRegisters}
+-- `calls_registers::dump_registers` meets its contract: its step's, on parts of the chip. Assumes nothing.
 use borrow.Author.Needs.{needs}
+use Rattle.calls_registers.proofs.Said.{dump-said}
 use Rattle.calls_registers.proofs.dump_registers.Statement.{statement}
 use Rattle.calls_registers.proofs.dump_registers.Tie as tie
 
 in-range-requires : tie.Need-in-range-requires
 in-range-requires c κs = search needs
 
+dump-registers-requires : tie.Need-dump-registers-requires
+dump-registers-requires c κs = search needs
+
 returns : tie.Need-returns
-unfolding dumpRegisters
-returns c = on-no _ _ _ _ _ (c .before .in-range .ensures) (c .if1 .taken) refl
-
-padded-requires : tie.Need-padded-requires
-padded-requires c κs = search needs
-
-returns-2 : tie.Need-returns-2
-unfolding dumpRegisters
-returns-2 c = on-yes _ _ _ _ _ (c .before .before .before .before .in-range .ensures) (c .before .before .before .if1 .left) (rw (c .padded .ensures))
+returns c = rw (c .dump-registers .ensures, c .before .before .before .in-range .ensures) (dump-said _)
 
 pub dump-registers-spec : {M : Type 1} → statement M
-dump-registers-spec = tie.close (tie.spec in-range-requires returns padded-requires returns-2)
+dump-registers-spec = tie.close (tie.spec in-range-requires dump-registers-requires returns)

@@ -1,0 +1,153 @@
+-- The fields of the structs within a lent chip, of which `ChipParts.antt` makes its deeper parts; a lent record shares those of a voice. Assumes nothing.
+use mathlib.Core.Path.{refl, sym, ap, subst}
+use mathlib.Core.List.{List, map}
+use Prim.Native.Nat.{ℕ}
+use denote.Laws.{Is}
+use denote.Struct.Laws as LL
+use Rattle.laws.proofs.Flat.{row, vals, val-of, boolf, bytesf}
+use Rattle.lent_walks.proofs.Parts.{map-same, offset, with-field}
+use Rattle.lent_walks.proofs.Places.{Field, struct, plain, f32f}
+use Rattle.channel.proofs.Channel as channel′
+use Rattle.channel.proofs.Channel.Laws as channel-laws
+use Rattle.three_channels.specs.declared.Channels.{Channels}
+use Rattle.three_channels.proofs.Channels as channels′
+use Rattle.three_channels.proofs.Channels.Laws as channels-laws
+use Rattle.registers.specs.declared.Voice.{Voice}
+use Rattle.registers.proofs.Voice as voice′
+use Rattle.registers.proofs.Voice.Laws as voice-laws
+use Rattle.chip.specs.declared.Core.{Core}
+use Rattle.chip.proofs.Core as core′
+use Rattle.chip.proofs.Core.Laws as core-laws
+use Rattle.chip.proofs.Chip as chip′
+use Rattle.chip.proofs.Chip.Laws as chip-laws
+use Rattle.chip_parts.specs.Parts.{withCore}
+
+-- ---- of a chip, and of its core
+abbrev pub core : Field chip′.the-type chip-laws.the-laws (struct core′.the-type core-laws.the-laws)
+core = record {
+  number = 0;
+  offset = offset chip-laws.mir 0;
+  there = refl;
+  of = λ c. c .core;
+  put = λ y c. withCore y c;
+  is = λ c. refl;
+  with-put = λ y c. refl;
+  ok = λ c are. LL.owed core′.the-type core-laws.the-laws (c .core) _ (are .0);
+  put-ok = λ y c y-ok are. (LL.owes core′.the-type core-laws.the-laws y y-ok, are .1);
+}
+
+abbrev with-voice : Voice → Core → Core
+with-voice y k = record { clocks = k .clocks; voice = y; channels = k .channels; selected = k .selected; accumulator = k .accumulator; stamp = k .stamp; start = k .start }
+
+abbrev pub voice : Field core′.the-type core-laws.the-laws (struct voice′.the-type voice-laws.the-laws)
+voice = record {
+  number = 1;
+  offset = offset core-laws.mir 1;
+  there = refl;
+  of = λ k. k .voice;
+  put = with-voice;
+  is = λ k. refl;
+  with-put = λ y k. refl;
+  ok = λ k are. LL.owed voice′.the-type voice-laws.the-laws (k .voice) _ (are .1 .0);
+  put-ok = λ y k y-ok are. (are .0, (LL.owes voice′.the-type voice-laws.the-laws y y-ok, are .1 .1));
+}
+
+abbrev with-channels : Channels → Core → Core
+with-channels y k = record { clocks = k .clocks; voice = k .voice; channels = y; selected = k .selected; accumulator = k .accumulator; stamp = k .stamp; start = k .start }
+
+abbrev pub channels : Field core′.the-type core-laws.the-laws (struct channels′.the-type channels-laws.the-laws)
+channels = record {
+  number = 2;
+  offset = offset core-laws.mir 2;
+  there = refl;
+  of = λ k. k .channels;
+  put = with-channels;
+  is = λ k. refl;
+  with-put = λ y k. refl;
+  ok = λ k are. LL.owed channels′.the-type channels-laws.the-laws (k .channels) _ (are .1 .1 .0);
+  put-ok = λ y k y-ok are. (are .0, (are .1 .0, (LL.owes channels′.the-type channels-laws.the-laws y y-ok, are .1 .1 .1)));
+}
+
+-- ---- of the three channels
+abbrev pub a : Field channels′.the-type channels-laws.the-laws (struct channel′.the-type channel-laws.the-laws)
+a = record {
+  number = 0;
+  offset = offset channels-laws.mir 0;
+  there = refl;
+  of = λ s. s .a;
+  put = λ y s. record { a = y; b = s .b; c = s .c };
+  is = λ s. refl;
+  with-put = λ y s. refl;
+  ok = λ s are. LL.owed channel′.the-type channel-laws.the-laws (s .a) _ (are .0);
+  put-ok = λ y s y-ok are. (LL.owes channel′.the-type channel-laws.the-laws y y-ok, are .1);
+}
+
+abbrev pub b : Field channels′.the-type channels-laws.the-laws (struct channel′.the-type channel-laws.the-laws)
+b = record {
+  number = 1;
+  offset = offset channels-laws.mir 1;
+  there = refl;
+  of = λ s. s .b;
+  put = λ y s. record { a = s .a; b = y; c = s .c };
+  is = λ s. refl;
+  with-put = λ y s. refl;
+  ok = λ s are. LL.owed channel′.the-type channel-laws.the-laws (s .b) _ (are .1 .0);
+  put-ok = λ y s y-ok are. (are .0, (LL.owes channel′.the-type channel-laws.the-laws y y-ok, are .1 .1));
+}
+
+abbrev pub c : Field channels′.the-type channels-laws.the-laws (struct channel′.the-type channel-laws.the-laws)
+c = record {
+  number = 2;
+  offset = offset channels-laws.mir 2;
+  there = refl;
+  of = λ s. s .c;
+  put = λ y s. record { a = s .a; b = s .b; c = y };
+  is = λ s. refl;
+  with-put = λ y s. refl;
+  ok = λ s are. LL.owed channel′.the-type channel-laws.the-laws (s .c) _ (are .1 .1 .0);
+  put-ok = λ y s y-ok are. (are .0, (are .1 .0, (LL.owes channel′.the-type channel-laws.the-laws y y-ok, are .1 .1 .1)));
+}
+
+-- ---- of a channel
+abbrev pub muted : Field channel′.the-type channel-laws.the-laws (plain boolf)
+muted = record {
+  number = 0;
+  offset = offset channel-laws.mir 0;
+  there = refl;
+  of = λ x. x .muted;
+  put = λ y x. record { muted = y; drum = x .drum; output = x .output; amplitude = x .amplitude };
+  is = λ x. refl;
+  with-put = λ y x. refl;
+  ok = λ x are. are .0;
+  put-ok = λ y x y-ok are. (y-ok, are .1);
+}
+
+abbrev pub output : Field channel′.the-type channel-laws.the-laws (plain f32f)
+output = record {
+  number = 2;
+  offset = offset channel-laws.mir 2;
+  there = refl;
+  of = λ x. x .output;
+  put = λ y x. record { muted = x .muted; drum = x .drum; output = y; amplitude = x .amplitude };
+  is = λ x. refl;
+  with-put = λ y x. refl;
+  ok = λ x are. are .1 .1 .0;
+  put-ok = λ y x y-ok are. (are .0, (are .1 .0, (y-ok, are .1 .1 .1)));
+}
+
+-- ---- of a voice: its stored bytes
+abbrev pub with-registers : List ℕ → Voice → Voice
+with-registers y v = record { registers = y; generators = v .generators; gates = v .gates; irq = v .irq }
+
+abbrev pub registers : Field voice′.the-type voice-laws.the-laws (plain (bytesf 14))
+registers = record {
+  number = 0;
+  offset = offset voice-laws.mir 0;
+  there = refl;
+  of = λ v. map (λ v. v) (v .registers);
+  put = with-registers;
+  is = λ v. refl;
+  with-put = λ y v. ap (λ (l : List ℕ). with-field 0 (LL.val voice′.the-type voice-laws.the-laws v) (val-of (bytesf 14) l)) (sym (map-same y));
+  ok = λ v are. are .0;
+  put-ok = λ y v y-ok are. (subst (λ (l : List ℕ). Is (row (bytesf 14)) l (vals (bytesf 14) l)) (sym (map-same y)) y-ok, are .1);
+}
