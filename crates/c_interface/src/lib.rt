@@ -194,9 +194,22 @@ pub extern "C" fn ym2149_set_timer_irq_state(chip: &mut Record, on: bool) -> u8
     ensures { λ r. ⌜ (r ≡ onRecord (setTimerIrqState on) (now (chip .entry)) .no)
         × (now (chip .exit) ≡ onRecord (setTimerIrqState on) (now (chip .entry)) .chip) ⌝ }
 {
-    let r = c_calls::set_timer_irq_state(*chip, on);
-    *chip = r.chip;
-    r.no
+    let ok = lent_record::in_range(&*chip);
+    let flagged = c_steps::set_timer_irq_state(
+        ok,
+        chip.core.a.drum,
+        chip.core.b.drum,
+        chip.core.c.drum,
+        chip.core.voice.generators,
+        chip.core.voice.irq,
+        on,
+    );
+    chip.core.a.drum = flagged.a;
+    chip.core.b.drum = flagged.b;
+    chip.core.c.drum = flagged.c;
+    chip.core.voice.generators = flagged.generators;
+    chip.core.voice.irq = flagged.irq;
+    flagged.no
 }
 
 #[no_mangle]
@@ -204,9 +217,22 @@ pub extern "C" fn ym2149_inside_timer_irq(chip: &mut Record, inside: bool) -> u8
     ensures { λ r. ⌜ (r ≡ onRecord (setTimerIrqState inside) (now (chip .entry)) .no)
         × (now (chip .exit) ≡ onRecord (setTimerIrqState inside) (now (chip .entry)) .chip) ⌝ }
 {
-    let r = c_calls::inside_timer_irq(*chip, inside);
-    *chip = r.chip;
-    r.no
+    let ok = lent_record::in_range(&*chip);
+    let flagged = c_steps::set_timer_irq_state(
+        ok,
+        chip.core.a.drum,
+        chip.core.b.drum,
+        chip.core.c.drum,
+        chip.core.voice.generators,
+        chip.core.voice.irq,
+        inside,
+    );
+    chip.core.a.drum = flagged.a;
+    chip.core.b.drum = flagged.b;
+    chip.core.c.drum = flagged.c;
+    chip.core.voice.generators = flagged.generators;
+    chip.core.voice.irq = flagged.irq;
+    flagged.no
 }
 
 #[no_mangle]
@@ -214,9 +240,19 @@ pub extern "C" fn ym2149_trigger_envelope(chip: &mut Record) -> u8
     ensures { λ r. ⌜ (r ≡ onRecord triggerEnvelope (now (chip .entry)) .no)
         × (now (chip .exit) ≡ onRecord triggerEnvelope (now (chip .entry)) .chip) ⌝ }
 {
-    let r = c_calls::trigger_envelope(*chip);
-    *chip = r.chip;
-    r.no
+    let ok = lent_record::in_range(&*chip);
+    let triggered = c_steps::trigger_envelope(
+        ok,
+        chip.core.a.drum,
+        chip.core.b.drum,
+        chip.core.c.drum,
+        chip.core.voice.generators.envelope,
+    );
+    chip.core.a.drum = triggered.a;
+    chip.core.b.drum = triggered.b;
+    chip.core.c.drum = triggered.c;
+    chip.core.voice.generators.envelope = triggered.envelope;
+    triggered.no
 }
 
 #[no_mangle]
@@ -224,9 +260,25 @@ pub extern "C" fn ym2149_set_channel_mute(chip: &mut Record, channel: usize, mut
     ensures { λ r. ⌜ (r ≡ onRecord (setChannelMute channel muted) (now (chip .entry)) .no)
         × (now (chip .exit) ≡ onRecord (setChannelMute channel muted) (now (chip .entry)) .chip) ⌝ }
 {
-    let r = c_calls::set_channel_mute(*chip, channel, muted);
-    *chip = r.chip;
-    r.no
+    let ok = lent_record::in_range(&*chip);
+    let mutes = c_steps::set_channel_mute(
+        ok,
+        chip.core.a.drum,
+        chip.core.b.drum,
+        chip.core.c.drum,
+        chip.core.a.muted,
+        chip.core.b.muted,
+        chip.core.c.muted,
+        channel,
+        muted,
+    );
+    chip.core.a.drum = mutes.a;
+    chip.core.b.drum = mutes.b;
+    chip.core.c.drum = mutes.c;
+    chip.core.a.muted = mutes.mutea;
+    chip.core.b.muted = mutes.muteb;
+    chip.core.c.muted = mutes.mutec;
+    mutes.no
 }
 
 #[no_mangle]
@@ -238,9 +290,19 @@ pub extern "C" fn ym2149_set_drum_sample_override(
     ensures { λ r. ⌜ (r ≡ onRecord (setDrumSampleOverride channel (drumOf drum)) (now (chip .entry)) .no)
         × (now (chip .exit) ≡ onRecord (setDrumSampleOverride channel (drumOf drum)) (now (chip .entry)) .chip) ⌝ }
 {
-    let r = c_calls::set_drum_sample_override(*chip, channel, drum);
-    *chip = r.chip;
-    r.no
+    let ok = lent_record::in_range(&*chip);
+    let drums = c_steps::set_drum_sample_override(
+        ok,
+        chip.core.a.drum,
+        chip.core.b.drum,
+        chip.core.c.drum,
+        channel,
+        drum,
+    );
+    chip.core.a.drum = drums.a;
+    chip.core.b.drum = drums.b;
+    chip.core.c.drum = drums.c;
+    drums.no
 }
 
 #[no_mangle]

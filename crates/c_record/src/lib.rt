@@ -142,7 +142,7 @@ fn record_channel(channel: Channel) -> RecordChannel
     }
 }
 
-fn record_drum(drum: Drum) -> RecordDrum
+pub fn record_drum(drum: Drum) -> RecordDrum
     ensures { λ r. ⌜ r ≡ recordDrum drum ⌝ }
 {
     match drum {

@@ -10,9 +10,17 @@ use Rattle.steps_cycles.specs.declared.Synced.{Synced}
 use Rattle.c_steps.specs.declared.RecordStamped.{RecordStamped}
 use Rattle.c_steps.specs.declared.RecordSynced.{RecordSynced}
 use Rattle.c_steps.specs.declared.RecordVoiced.{RecordVoiced}
+use Rattle.steps_channels.specs.declared.Drummed.{Drummed}
+use Rattle.steps_channels.specs.declared.Muted.{Muted}
+use Rattle.steps_effects.specs.declared.Flagged.{Flagged}
+use Rattle.steps_effects.specs.declared.Triggered.{Triggered}
 use Rattle.steps_voice.specs.declared.PortWritten.{PortWritten}
 use Rattle.steps_voice.specs.declared.Voiced.{Voiced}
 use Rattle.c_steps.specs.declared.RecordPort.{RecordPort}
+use Rattle.c_steps.specs.declared.RecordDrummed.{RecordDrummed}
+use Rattle.c_steps.specs.declared.RecordFlagged.{RecordFlagged}
+use Rattle.c_steps.specs.declared.RecordMuted.{RecordMuted}
+use Rattle.c_steps.specs.declared.RecordTriggered.{RecordTriggered}
 
 -- A refused call changes nothing; an accepted one leaves the drum that the record holds, and one that is off has no level.
 unfoldable pub settled : ℕ → RecordDrum → RecordDrum
@@ -29,3 +37,20 @@ recordVoiced a b c v = record { a = settled (v .no) a; b = settled (v .no) b; c 
 
 abbrev pub recordPort : RecordDrum → RecordDrum → RecordDrum → PortWritten → RecordPort
 recordPort a b c p = record { a = settled (p .no) a; b = settled (p .no) b; c = settled (p .no) c; voice = p .voice; selected = p .selected; no = p .no }
+
+abbrev pub recordFlagged : RecordDrum → RecordDrum → RecordDrum → Flagged → RecordFlagged
+recordFlagged a b c f = record { a = settled (f .no) a; b = settled (f .no) b; c = settled (f .no) c; generators = f .generators; irq = f .irq; no = f .no }
+
+abbrev pub recordTriggered : RecordDrum → RecordDrum → RecordDrum → Triggered → RecordTriggered
+recordTriggered a b c t = record { a = settled (t .no) a; b = settled (t .no) b; c = settled (t .no) c; envelope = t .envelope; no = t .no }
+
+abbrev pub recordMuted : RecordDrum → RecordDrum → RecordDrum → Muted → RecordMuted
+recordMuted a b c m =
+    record { a = settled (m .no) a; b = settled (m .no) b; c = settled (m .no) c; mutea = m .a; muteb = m .b; mutec = m .c; no = m .no }
+
+-- the drums themselves: an accepted call leaves those of the step, a refused one those that were there
+unfoldable pub recordDrummed : RecordDrum → RecordDrum → RecordDrum → Drummed → RecordDrummed
+recordDrummed a b c d =
+    cond (eqb (d .no) accepted)
+    (record { a = recordDrum (d .a); b = recordDrum (d .b); c = recordDrum (d .c); no = d .no })
+    (record { a = a; b = b; c = c; no = d .no })

@@ -5,9 +5,14 @@ ghost use Rattle.steps_cycles.specs.CycleSteps.{bothSet, stampSet};
 ghost use Rattle.registers.specs.Registers.{applyRegister};
 ghost use Rattle.registers.specs.Writes.{loaded};
 ghost use Rattle.steps_voice.specs.VoiceSteps.{portWritten, voiced};
-ghost use Rattle.c_steps.specs.RecordSteps.{recordPort, recordStamped, recordSynced, recordVoiced, settled};
+ghost use Rattle.steps_effects.specs.EffectSteps.{flagSet, triggerSet};
+ghost use Rattle.steps_channels.specs.ChannelSteps.{drumsSet, mutesSet};
+ghost use Rattle.c_record.specs.Record.{drumOf};
+ghost use Rattle.c_steps.specs.RecordSteps.{recordDrummed, recordFlagged, recordMuted, recordPort, recordStamped, recordSynced, recordTriggered, recordVoiced, settled};
 use c_record::RecordDrum;
 use c_record::Registers;
+use envelope::Envelope;
+use generators::Generators;
 use registers::Voice;
 
 // The drums and the stamp to store, and the call's number.
@@ -45,6 +50,44 @@ pub struct RecordPort {
     pub c: RecordDrum,
     pub voice: Voice,
     pub selected: u8,
+    pub no: u8,
+}
+
+// The drums, the generators and the IRQ flag to store, and the call's number.
+pub struct RecordFlagged {
+    pub a: RecordDrum,
+    pub b: RecordDrum,
+    pub c: RecordDrum,
+    pub generators: Generators,
+    pub irq: bool,
+    pub no: u8,
+}
+
+// The drums and the envelope to store, and the call's number.
+pub struct RecordTriggered {
+    pub a: RecordDrum,
+    pub b: RecordDrum,
+    pub c: RecordDrum,
+    pub envelope: Envelope,
+    pub no: u8,
+}
+
+// The drums and the mutes to store, and the call's number.
+pub struct RecordMuted {
+    pub a: RecordDrum,
+    pub b: RecordDrum,
+    pub c: RecordDrum,
+    pub mutea: bool,
+    pub muteb: bool,
+    pub mutec: bool,
+    pub no: u8,
+}
+
+// The drums to store, and the call's number.
+pub struct RecordDrummed {
+    pub a: RecordDrum,
+    pub b: RecordDrum,
+    pub c: RecordDrum,
     pub no: u8,
 }
 
@@ -154,6 +197,103 @@ pub fn write_port_immediate(
         c: settled(r.no, c),
         voice: after,
         selected: r.selected,
+        no: r.no,
+    }
+}
+
+pub fn set_timer_irq_state(
+    ok: bool,
+    a: RecordDrum,
+    b: RecordDrum,
+    c: RecordDrum,
+    generators: Generators,
+    irq: bool,
+    on: bool,
+) -> RecordFlagged
+    ensures { λ r. ⌜ r ≡ recordFlagged a b c (flagSet ok generators irq on) ⌝ }
+{
+    let r = steps_effects::set_timer_irq_state(ok, generators, irq, on);
+    let after = r.generators;
+    RecordFlagged {
+        a: settled(r.no, a),
+        b: settled(r.no, b),
+        c: settled(r.no, c),
+        generators: after,
+        irq: r.irq,
+        no: r.no,
+    }
+}
+
+pub fn trigger_envelope(
+    ok: bool,
+    a: RecordDrum,
+    b: RecordDrum,
+    c: RecordDrum,
+    envelope: Envelope,
+) -> RecordTriggered
+    ensures { λ r. ⌜ r ≡ recordTriggered a b c (triggerSet ok envelope) ⌝ }
+{
+    let r = steps_effects::trigger_envelope(ok, envelope);
+    let after = r.envelope;
+    RecordTriggered {
+        a: settled(r.no, a),
+        b: settled(r.no, b),
+        c: settled(r.no, c),
+        envelope: after,
+        no: r.no,
+    }
+}
+
+pub fn set_channel_mute(
+    ok: bool,
+    a: RecordDrum,
+    b: RecordDrum,
+    c: RecordDrum,
+    mutea: bool,
+    muteb: bool,
+    mutec: bool,
+    channel: usize,
+    muted: bool,
+) -> RecordMuted
+    ensures { λ r. ⌜ r ≡ recordMuted a b c (mutesSet ok mutea muteb mutec channel muted) ⌝ }
+{
+    let r = steps_channels::set_channel_mute(ok, mutea, muteb, mutec, channel, muted);
+    RecordMuted {
+        a: settled(r.no, a),
+        b: settled(r.no, b),
+        c: settled(r.no, c),
+        mutea: r.a,
+        muteb: r.b,
+        mutec: r.c,
+        no: r.no,
+    }
+}
+
+pub fn set_drum_sample_override(
+    ok: bool,
+    a: RecordDrum,
+    b: RecordDrum,
+    c: RecordDrum,
+    channel: usize,
+    drum: RecordDrum,
+) -> RecordDrummed
+    ensures { λ r. ⌜ r ≡ recordDrummed a b c (drumsSet ok (drumOf a) (drumOf b) (drumOf c) channel (drumOf drum)) ⌝ }
+{
+    let first = c_record::drum_of(a);
+    let second = c_record::drum_of(b);
+    let third = c_record::drum_of(c);
+    let sample = c_record::drum_of(drum);
+    let r = steps_channels::set_drum_sample_override(ok, first, second, third, channel, sample);
+    if r.no != refusals::ACCEPTED {
+        return RecordDrummed { a, b, c, no: r.no };
+    }
+    let first = r.a;
+    let second = r.b;
+    let third = r.c;
+    RecordDrummed {
+        a: c_record::record_drum(first),
+        b: c_record::record_drum(second),
+        c: c_record::record_drum(third),
         no: r.no,
     }
 }

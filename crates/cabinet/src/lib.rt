@@ -99,8 +99,15 @@ pub fn set_timer_irq_state(chip: &mut Chip, on: bool) -> u8
     ensures { λ r. ⌜ (r ≡ setTimerIrqState on (now (chip .entry)) .no)
         × (now (chip .exit) ≡ setTimerIrqState on (now (chip .entry)) .chip) ⌝ }
 {
-    let r = calls_effects::set_timer_irq_state(*chip, on);
-    *chip = r.chip;
+    let ok = lent_chip::in_range(&*chip);
+    let r = steps_effects::set_timer_irq_state(
+        ok,
+        chip.core.voice.generators,
+        chip.core.voice.irq,
+        on,
+    );
+    chip.core.voice.generators = r.generators;
+    chip.core.voice.irq = r.irq;
     r.no
 }
 
@@ -108,8 +115,15 @@ pub fn inside_timer_irq(chip: &mut Chip, inside: bool) -> u8
     ensures { λ r. ⌜ (r ≡ setTimerIrqState inside (now (chip .entry)) .no)
         × (now (chip .exit) ≡ setTimerIrqState inside (now (chip .entry)) .chip) ⌝ }
 {
-    let r = calls_effects::inside_timer_irq(*chip, inside);
-    *chip = r.chip;
+    let ok = lent_chip::in_range(&*chip);
+    let r = steps_effects::set_timer_irq_state(
+        ok,
+        chip.core.voice.generators,
+        chip.core.voice.irq,
+        inside,
+    );
+    chip.core.voice.generators = r.generators;
+    chip.core.voice.irq = r.irq;
     r.no
 }
 
@@ -117,8 +131,9 @@ pub fn trigger_envelope(chip: &mut Chip) -> u8
     ensures { λ r. ⌜ (r ≡ triggerEnvelope (now (chip .entry)) .no)
         × (now (chip .exit) ≡ triggerEnvelope (now (chip .entry)) .chip) ⌝ }
 {
-    let r = calls_effects::trigger_envelope(*chip);
-    *chip = r.chip;
+    let ok = lent_chip::in_range(&*chip);
+    let r = steps_effects::trigger_envelope(ok, chip.core.voice.generators.envelope);
+    chip.core.voice.generators.envelope = r.envelope;
     r.no
 }
 
@@ -126,18 +141,38 @@ pub fn set_channel_mute(chip: &mut Chip, channel: usize, muted: bool) -> u8
     ensures { λ r. ⌜ (r ≡ setChannelMute channel muted (now (chip .entry)) .no)
         × (now (chip .exit) ≡ setChannelMute channel muted (now (chip .entry)) .chip) ⌝ }
 {
-    let r = calls_channels::set_channel_mute(*chip, channel, muted);
-    *chip = r.chip;
-    r.no
+    let ok = lent_chip::in_range(&*chip);
+    let set = steps_channels::set_channel_mute(
+        ok,
+        chip.core.channels.a.muted,
+        chip.core.channels.b.muted,
+        chip.core.channels.c.muted,
+        channel,
+        muted,
+    );
+    chip.core.channels.a.muted = set.a;
+    chip.core.channels.b.muted = set.b;
+    chip.core.channels.c.muted = set.c;
+    set.no
 }
 
 pub fn set_drum_sample_override(chip: &mut Chip, channel: usize, drum: Drum) -> u8
     ensures { λ r. ⌜ (r ≡ setDrumSampleOverride channel drum (now (chip .entry)) .no)
         × (now (chip .exit) ≡ setDrumSampleOverride channel drum (now (chip .entry)) .chip) ⌝ }
 {
-    let r = calls_channels::set_drum_sample_override(*chip, channel, drum);
-    *chip = r.chip;
-    r.no
+    let ok = lent_chip::in_range(&*chip);
+    let set = steps_channels::set_drum_sample_override(
+        ok,
+        chip.core.channels.a.drum,
+        chip.core.channels.b.drum,
+        chip.core.channels.c.drum,
+        channel,
+        drum,
+    );
+    chip.core.channels.a.drum = set.a;
+    chip.core.channels.b.drum = set.b;
+    chip.core.channels.c.drum = set.c;
+    set.no
 }
 
 pub fn read_register(chip: &Chip, register: u8) -> Byte

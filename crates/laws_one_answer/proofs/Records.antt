@@ -11,16 +11,12 @@ held =
       tell-sample = λ h x y. by-answer (h .𝓤);
       tell-block = λ h x y. by-answer (h .𝓤);
       drum-of = λ h x y. by-answer (h .𝓤);
+      record-drum = λ h x y. by-answer (h .𝓤);
       new = λ h x y. by-answer (h .𝓤);
       with-clocks = λ h x y. by-answer (h .𝓤);
       reset = λ h x y. by-answer (h .𝓤);
       write-port = λ h x y. by-answer (h .𝓤);
       flush-pending-writes = λ h x y. by-answer (h .𝓤);
-      set-timer-irq-state = λ h x y. by-answer (h .𝓤);
-      inside-timer-irq = λ h x y. by-answer (h .𝓤);
-      trigger-envelope = λ h x y. by-answer (h .𝓤);
-      set-channel-mute = λ h x y. by-answer (h .𝓤);
-      set-drum-sample-override = λ h x y. by-answer (h .𝓤);
       compute-next-sample = λ h x y. by-answer (h .𝓤);
       block = λ h x y. by-buffer (h .𝓤) (λ w. (tt, (w, tt)));
     }

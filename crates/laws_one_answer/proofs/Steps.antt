@@ -21,9 +21,17 @@ steps =
       read-port = λ h x y. by-answer (h .𝓤);
       is-channel-muted = λ h x y. by-answer (h .𝓤);
       get-channel-outputs = λ h x y. by-answer (h .𝓤);
+      set-channel-mute = λ h x y. by-answer (h .𝓤);
+      set-drum-sample-override = λ h x y. by-answer (h .𝓤);
+      set-timer-irq-state = λ h x y. by-answer (h .𝓤);
+      trigger-envelope = λ h x y. by-answer (h .𝓤);
       c-set-cpu-cycle = λ h x y. by-answer (h .𝓤);
       c-sync-sample-cycle = λ h x y. by-answer (h .𝓤);
       c-write-register = λ h x y. by-answer (h .𝓤);
       c-load-registers = λ h x y. by-answer (h .𝓤);
       c-write-port-immediate = λ h x y. by-answer (h .𝓤);
+      c-set-timer-irq-state = λ h x y. by-answer (h .𝓤);
+      c-trigger-envelope = λ h x y. by-answer (h .𝓤);
+      c-set-channel-mute = λ h x y. by-answer (h .𝓤);
+      c-set-drum-sample-override = λ h x y. by-answer (h .𝓤);
     }

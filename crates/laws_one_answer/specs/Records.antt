@@ -5,16 +5,12 @@ use Rattle.c_told.proofs.tell
 use Rattle.c_told.proofs.tell_sample as tell-sample
 use Rattle.c_told.proofs.tell_block as tell-block
 use Rattle.c_record.proofs.drum_of as drum-of
+use Rattle.c_record.proofs.record_drum as record-drum
 use Rattle.c_making.proofs.new
 use Rattle.c_making.proofs.with_clocks as with-clocks
 use Rattle.c_calls.proofs.reset
 use Rattle.c_calls.proofs.write_port as write-port
 use Rattle.c_calls.proofs.flush_pending_writes as flush-pending-writes
-use Rattle.c_calls.proofs.set_timer_irq_state as set-timer-irq-state
-use Rattle.c_calls.proofs.inside_timer_irq as inside-timer-irq
-use Rattle.c_calls.proofs.trigger_envelope as trigger-envelope
-use Rattle.c_calls.proofs.set_channel_mute as set-channel-mute
-use Rattle.c_calls.proofs.set_drum_sample_override as set-drum-sample-override
 use Rattle.c_words.proofs.compute_next_sample as compute-next-sample
 use Rattle.c_words.proofs.block
 use Rattle.laws_one_answer.specs.Settled.{Settles}
@@ -26,15 +22,11 @@ pub record Held : Type 2 where
   pub tell-sample : Settles tell-sample.ended (λ M. tell-sample.clauses)
   pub tell-block : Settles tell-block.ended (λ M. tell-block.clauses)
   pub drum-of : Settles drum-of.ended (λ M. drum-of.clauses)
+  pub record-drum : Settles record-drum.ended (λ M. record-drum.clauses)
   pub new : Settles new.ended (λ M. new.clauses)
   pub with-clocks : Settles with-clocks.ended (λ M. with-clocks.clauses)
   pub reset : Settles reset.ended (λ M. reset.clauses)
   pub write-port : Settles write-port.ended (λ M. write-port.clauses)
   pub flush-pending-writes : Settles flush-pending-writes.ended (λ M. flush-pending-writes.clauses)
-  pub set-timer-irq-state : Settles set-timer-irq-state.ended (λ M. set-timer-irq-state.clauses)
-  pub inside-timer-irq : Settles inside-timer-irq.ended (λ M. inside-timer-irq.clauses)
-  pub trigger-envelope : Settles trigger-envelope.ended (λ M. trigger-envelope.clauses)
-  pub set-channel-mute : Settles set-channel-mute.ended (λ M. set-channel-mute.clauses)
-  pub set-drum-sample-override : Settles set-drum-sample-override.ended (λ M. set-drum-sample-override.clauses)
   pub compute-next-sample : Settles compute-next-sample.ended (λ M. compute-next-sample.clauses)
   pub block : Settles block.ended (λ M. block.clauses)

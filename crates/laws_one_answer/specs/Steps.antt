@@ -15,11 +15,19 @@ use Rattle.steps_registers.proofs.dump_registers as dump-registers
 use Rattle.steps_registers.proofs.read_port as read-port
 use Rattle.steps_channels.proofs.is_channel_muted as is-channel-muted
 use Rattle.steps_channels.proofs.get_channel_outputs as get-channel-outputs
+use Rattle.steps_channels.proofs.set_channel_mute as set-channel-mute
+use Rattle.steps_channels.proofs.set_drum_sample_override as set-drum-sample-override
+use Rattle.steps_effects.proofs.set_timer_irq_state as set-timer-irq-state
+use Rattle.steps_effects.proofs.trigger_envelope as trigger-envelope
 use Rattle.c_steps.proofs.set_cpu_cycle as c-set-cpu-cycle
 use Rattle.c_steps.proofs.sync_sample_cycle as c-sync-sample-cycle
 use Rattle.c_steps.proofs.write_register as c-write-register
 use Rattle.c_steps.proofs.load_registers as c-load-registers
 use Rattle.c_steps.proofs.write_port_immediate as c-write-port-immediate
+use Rattle.c_steps.proofs.set_timer_irq_state as c-set-timer-irq-state
+use Rattle.c_steps.proofs.trigger_envelope as c-trigger-envelope
+use Rattle.c_steps.proofs.set_channel_mute as c-set-channel-mute
+use Rattle.c_steps.proofs.set_drum_sample_override as c-set-drum-sample-override
 use Rattle.laws_one_answer.specs.Settled.{Settles}
 
 pub record Steps : Type 2 where
@@ -39,8 +47,16 @@ pub record Steps : Type 2 where
   pub read-port : Settles read-port.ended (λ M. read-port.clauses)
   pub is-channel-muted : Settles is-channel-muted.ended (λ M. is-channel-muted.clauses)
   pub get-channel-outputs : Settles get-channel-outputs.ended (λ M. get-channel-outputs.clauses)
+  pub set-channel-mute : Settles set-channel-mute.ended (λ M. set-channel-mute.clauses)
+  pub set-drum-sample-override : Settles set-drum-sample-override.ended (λ M. set-drum-sample-override.clauses)
+  pub set-timer-irq-state : Settles set-timer-irq-state.ended (λ M. set-timer-irq-state.clauses)
+  pub trigger-envelope : Settles trigger-envelope.ended (λ M. trigger-envelope.clauses)
   pub c-set-cpu-cycle : Settles c-set-cpu-cycle.ended (λ M. c-set-cpu-cycle.clauses)
   pub c-sync-sample-cycle : Settles c-sync-sample-cycle.ended (λ M. c-sync-sample-cycle.clauses)
   pub c-write-register : Settles c-write-register.ended (λ M. c-write-register.clauses)
   pub c-load-registers : Settles c-load-registers.ended (λ M. c-load-registers.clauses)
   pub c-write-port-immediate : Settles c-write-port-immediate.ended (λ M. c-write-port-immediate.clauses)
+  pub c-set-timer-irq-state : Settles c-set-timer-irq-state.ended (λ M. c-set-timer-irq-state.clauses)
+  pub c-trigger-envelope : Settles c-trigger-envelope.ended (λ M. c-trigger-envelope.clauses)
+  pub c-set-channel-mute : Settles c-set-channel-mute.ended (λ M. c-set-channel-mute.clauses)
+  pub c-set-drum-sample-override : Settles c-set-drum-sample-override.ended (λ M. c-set-drum-sample-override.clauses)

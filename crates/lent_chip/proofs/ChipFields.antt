@@ -4,9 +4,14 @@ use mathlib.Core.List.{List, map}
 use Prim.Native.Nat.{ℕ}
 use denote.Laws.{Is}
 use denote.Struct.Laws as LL
-use Rattle.laws.proofs.Flat.{row, vals, val-of, boolf, bytesf}
+use Rattle.laws.proofs.Flat.{Flat, row, vals, val-of, boolf, bytesf, structf}
 use Rattle.lent_walks.proofs.Parts.{map-same, offset, with-field}
 use Rattle.lent_walks.proofs.Places.{Field, struct, plain, f32f}
+use Rattle.envelope.proofs.Envelope as envelope′
+use Rattle.envelope.proofs.Envelope.Laws as envelope-laws
+use Rattle.generators.specs.declared.Generators.{Generators}
+use Rattle.generators.proofs.Generators as generators′
+use Rattle.generators.proofs.Generators.Laws as generators-laws
 use Rattle.channel.proofs.Channel as channel′
 use Rattle.channel.proofs.Channel.Laws as channel-laws
 use Rattle.three_channels.specs.declared.Channels.{Channels}
@@ -21,6 +26,13 @@ use Rattle.chip.proofs.Core.Laws as core-laws
 use Rattle.chip.proofs.Chip as chip′
 use Rattle.chip.proofs.Chip.Laws as chip-laws
 use Rattle.chip_parts.specs.Parts.{withCore}
+use Rattle.answers.proofs.Replies.{drum as sample}
+
+abbrev pub generatorsf : Flat
+generatorsf = structf generators′.the-type generators-laws.the-field-laws generators-laws.the-field-plain
+
+abbrev pub envelopef : Flat
+envelopef = structf envelope′.the-type envelope-laws.the-field-laws envelope-laws.the-field-plain
 
 -- ---- of a chip, and of its core
 abbrev pub core : Field chip′.the-type chip-laws.the-laws (struct core′.the-type core-laws.the-laws)
@@ -122,6 +134,19 @@ muted = record {
   put-ok = λ y x y-ok are. (y-ok, are .1);
 }
 
+abbrev pub drum : Field channel′.the-type channel-laws.the-laws (plain sample)
+drum = record {
+  number = 1;
+  offset = offset channel-laws.mir 1;
+  there = refl;
+  of = λ x. x .drum;
+  put = λ y x. record { muted = x .muted; drum = y; output = x .output; amplitude = x .amplitude };
+  is = λ x. refl;
+  with-put = λ y x. refl;
+  ok = λ x are. are .1 .0;
+  put-ok = λ y x y-ok are. (are .0, (y-ok, are .1 .1));
+}
+
 abbrev pub output : Field channel′.the-type channel-laws.the-laws (plain f32f)
 output = record {
   number = 2;
@@ -135,7 +160,7 @@ output = record {
   put-ok = λ y x y-ok are. (are .0, (are .1 .0, (y-ok, are .1 .1 .1)));
 }
 
--- ---- of a voice: its stored bytes
+-- ---- of a voice
 abbrev pub with-registers : List ℕ → Voice → Voice
 with-registers y v = record { registers = y; generators = v .generators; gates = v .gates; irq = v .irq }
 
@@ -150,4 +175,60 @@ registers = record {
   with-put = λ y v. ap (λ (l : List ℕ). with-field 0 (LL.val voice′.the-type voice-laws.the-laws v) (val-of (bytesf 14) l)) (sym (map-same y));
   ok = λ v are. are .0;
   put-ok = λ y v y-ok are. (subst (λ (l : List ℕ). Is (row (bytesf 14)) l (vals (bytesf 14) l)) (sym (map-same y)) y-ok, are .1);
+}
+
+abbrev with-generators : Generators → Voice → Voice
+with-generators y v = record { registers = v .registers; generators = y; gates = v .gates; irq = v .irq }
+
+abbrev pub generators : Field voice′.the-type voice-laws.the-laws (plain generatorsf)
+generators = record {
+  number = 1;
+  offset = offset voice-laws.mir 1;
+  there = refl;
+  of = λ v. v .generators;
+  put = with-generators;
+  is = λ v. refl;
+  with-put = λ y v. refl;
+  ok = λ v are. are .1 .0;
+  put-ok = λ y v y-ok are. (are .0, (y-ok, are .1 .1));
+}
+
+abbrev pub in-generators : Field voice′.the-type voice-laws.the-laws (struct generators′.the-type generators-laws.the-laws)
+in-generators = record {
+  number = 1;
+  offset = offset voice-laws.mir 1;
+  there = refl;
+  of = λ v. v .generators;
+  put = with-generators;
+  is = λ v. refl;
+  with-put = λ y v. refl;
+  ok = λ v are. LL.owed generators′.the-type generators-laws.the-laws (v .generators) _ (are .1 .0);
+  put-ok = λ y v y-ok are. (are .0, (LL.owes generators′.the-type generators-laws.the-laws y y-ok, are .1 .1));
+}
+
+abbrev pub irq : Field voice′.the-type voice-laws.the-laws (plain boolf)
+irq = record {
+  number = 3;
+  offset = offset voice-laws.mir 3;
+  there = refl;
+  of = λ v. v .irq;
+  put = λ y v. record { registers = v .registers; generators = v .generators; gates = v .gates; irq = y };
+  is = λ v. refl;
+  with-put = λ y v. refl;
+  ok = λ v are. are .1 .1 .1 .0;
+  put-ok = λ y v y-ok are. (are .0, (are .1 .0, (are .1 .1 .0, (y-ok, are .1 .1 .1 .1))));
+}
+
+-- ---- of the generators
+abbrev pub envelope : Field generators′.the-type generators-laws.the-laws (plain envelopef)
+envelope = record {
+  number = 4;
+  offset = offset generators-laws.mir 4;
+  there = refl;
+  of = λ g. g .envelope;
+  put = λ y g. record { a = g .a; b = g .b; c = g .c; noise = g .noise; envelope = y };
+  is = λ g. refl;
+  with-put = λ y g. refl;
+  ok = λ g are. are .1 .1 .1 .1 .0;
+  put-ok = λ y g y-ok are. (are .0, (are .1 .0, (are .1 .1 .0, (are .1 .1 .1 .0, (y-ok, are .1 .1 .1 .1 .1)))));
 }

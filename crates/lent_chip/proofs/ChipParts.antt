@@ -32,7 +32,7 @@ use Rattle.chip.proofs.Chip.Laws as chip-laws
 use Rattle.chip.proofs.Core as core′
 use Rattle.chip.proofs.Core.Laws as core-laws
 use Rattle.chip_parts.specs.Parts.{withChannels, withCore, withSelection, withTimes, withVoice}
-use Rattle.answers.proofs.Replies.{chip}
+use Rattle.answers.proofs.Replies.{chip, drum}
 
 -- the parts that are structs, as `Flat.antt` has them
 abbrev pub clocksf : Flat
@@ -265,3 +265,25 @@ output-b = part f32f (inside channel-b f.output)
 
 abbrev pub output-c : Part chip
 output-c = part f32f (inside channel-c f.output)
+
+-- ---- deeper parts that a call changes: the generators, the IRQ flag, the envelope, the drums
+abbrev in-voice : Place chip (struct voice′.the-type voice-laws.the-laws)
+in-voice = inside (inside (here chip) f.core) f.voice
+
+abbrev pub generators : Part chip
+generators = part f.generatorsf (inside in-voice f.generators)
+
+abbrev pub irq : Part chip
+irq = part boolf (inside in-voice f.irq)
+
+abbrev pub envelope : Part chip
+envelope = part f.envelopef (inside (inside in-voice f.in-generators) f.envelope)
+
+abbrev pub drum-a : Part chip
+drum-a = part drum (inside channel-a f.drum)
+
+abbrev pub drum-b : Part chip
+drum-b = part drum (inside channel-b f.drum)
+
+abbrev pub drum-c : Part chip
+drum-c = part drum (inside channel-c f.drum)

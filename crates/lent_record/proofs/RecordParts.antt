@@ -312,3 +312,16 @@ output-b = part f32f (inside channel-b f.output)
 
 abbrev pub output-c : Part lent
 output-c = part f32f (inside channel-c f.output)
+
+-- ---- deeper parts that a call changes: the generators, the IRQ flag, the envelope
+abbrev in-voice : Place lent (struct voice′.the-type voice-laws.the-laws)
+in-voice = inside (inside (here lent) f.core) f.voice
+
+abbrev pub generators : Part lent
+generators = part chip.generatorsf (inside in-voice chip.generators)
+
+abbrev pub irq : Part lent
+irq = part boolf (inside in-voice chip.irq)
+
+abbrev pub envelope : Part lent
+envelope = part chip.envelopef (inside (inside in-voice chip.in-generators) chip.envelope)

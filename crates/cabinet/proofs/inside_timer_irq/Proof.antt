@@ -1,16 +1,22 @@
--- `cabinet::inside_timer_irq` meets its contract: the walk of `Thin.antt`, at `calls_effects::inside_timer_irq`. Assumes nothing.
+-- `cabinet::inside_timer_irq` meets its contract: the walk of `Stored.antt`, at `steps_effects::set_timer_irq_state`. Assumes nothing.
 use mathlib.Core.Path.{refl}
 use mathlib.Core.List.{[], _∷_}
 use Rattle.laws.proofs.Flat.{boolf}
-use Rattle.laws.proofs.Thin as thin
+use Rattle.lent_walks.proofs.Stored as stored
+use Rattle.lent_chip.proofs.ChipParts.{generators, irq}
+use Rattle.lent_chip.proofs.in_range.Symbol as t
+use Rattle.lent_chip.proofs.in_range.Met as t-thm
+use Rattle.chip.specs.Range.{chipIn}
 use Rattle.calls_effects.specs.Effects.{setTimerIrqState}
-use Rattle.calls_effects.proofs.inside_timer_irq.Symbol as g
-use Rattle.calls_effects.proofs.inside_timer_irq.Met as g-thm
-use Rattle.answers.proofs.Replies as replies
+use Rattle.steps_effects.proofs.set_timer_irq_state.Symbol as g
+use Rattle.steps_effects.proofs.set_timer_irq_state.Met as g-thm
+use Rattle.cabinet.proofs.Effects.{laid-flag, reply-flag, stepFlag, flag-split}
 use Rattle.cabinet.proofs.inside_timer_irq.Key as key
 use Rattle.cabinet.proofs.inside_timer_irq.Statement.{statement}
 use Rattle.cabinet.proofs.inside_timer_irq.Code as code
 
 pub inside-timer-irq-spec : {M : Type 1} → statement M
 unfolding code.routine
-inside-timer-irq-spec 𝓤 H 𝓜 𝓖 𝓡 = thin.spec (boolf ∷ []) replies.answered (λ c a. setTimerIrqState (a .0) c) 𝓤 H 𝓜 𝓖 𝓡 code.env key.name g.name g.routine (code.unfolded 𝓤 H 𝓜 𝓡) refl (g-thm.met 𝓤 H 𝓜 𝓖 𝓡)
+inside-timer-irq-spec 𝓤 H 𝓜 𝓖 𝓡 =
+    stored.spec (boolf ∷ []) (generators ∷ irq ∷ []) reply-flag chipIn stepFlag (λ c a. setTimerIrqState (a .0) c .no) (λ c a. setTimerIrqState (a .0) c .chip) 𝓤 H 𝓜 𝓖 𝓡 code.env flag-split laid-flag
+    key.name t.name g.name t.routine g.routine (code.unfolded 𝓤 H 𝓜 𝓡) refl (t-thm.met 𝓤 H 𝓜 𝓖 𝓡) refl (g-thm.met 𝓤 H 𝓜 𝓖 𝓡)
