@@ -10,40 +10,36 @@ use chip::Chip;
 pub fn set_cpu_cycle(chip: Chip, cycle: u64) -> Answered
     ensures { λ r. ⌜ r ≡ setCpuCycle cycle chip ⌝ }
 {
-    if !chip::in_range(chip) {
-        return answers::refused(chip);
-    }
+    let ok = chip::in_range(chip);
+    let r = steps_cycles::set_cpu_cycle(ok, chip.core.stamp, cycle);
     let mut after = chip;
-    after.core.stamp = cycle;
-    answers::accepted(after)
+    after.core.stamp = r.stamp;
+    Answered {
+        chip: after,
+        no: r.no,
+    }
 }
 
 pub fn cpu_cycle(chip: Chip) -> Cycle
     ensures { λ r. ⌜ r ≡ cpuCycle chip ⌝ }
 {
-    if !chip::in_range(chip) {
-        return Cycle {
-            no: refusals::OUT_OF_RANGE,
-            cycle: 0,
-        };
-    }
-    Cycle {
-        no: refusals::ACCEPTED,
-        cycle: chip.core.stamp,
-    }
+    let ok = chip::in_range(chip);
+    steps_cycles::cpu_cycle(ok, chip.core.stamp)
 }
 
 // The stamp, and the next word's start.
 pub fn sync_sample_cycle(chip: Chip, cycle: u64) -> Answered
     ensures { λ r. ⌜ r ≡ syncSampleCycle cycle chip ⌝ }
 {
-    if !chip::in_range(chip) {
-        return answers::refused(chip);
-    }
+    let ok = chip::in_range(chip);
+    let r = steps_cycles::sync_sample_cycle(ok, chip.core.stamp, chip.core.start, cycle);
     let mut after = chip;
-    after.core.stamp = cycle;
-    after.core.start = cycle;
-    answers::accepted(after)
+    after.core.stamp = r.stamp;
+    after.core.start = r.start;
+    Answered {
+        chip: after,
+        no: r.no,
+    }
 }
 
 pub fn flush_pending_writes(chip: Chip) -> Answered
@@ -62,14 +58,6 @@ pub fn flush_pending_writes(chip: Chip) -> Answered
 pub fn pending_write_count(chip: Chip) -> Count
     ensures { λ r. ⌜ r ≡ pendingWriteCount chip ⌝ }
 {
-    if !chip::in_range(chip) {
-        return Count {
-            no: refusals::OUT_OF_RANGE,
-            count: 0,
-        };
-    }
-    Count {
-        no: refusals::ACCEPTED,
-        count: chip.queue.count,
-    }
+    let ok = chip::in_range(chip);
+    steps_cycles::pending_write_count(ok, chip.queue.count)
 }

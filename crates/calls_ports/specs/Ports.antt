@@ -1,7 +1,7 @@
 -- The ports. 01, "Registers and ports". Assumes nothing.
-use Prim.Native.Nat.{_%_, _/_, ℕ}
-use lib.Dec.{eqb, ltb}
-use mathlib.Core.Bool.{Bool, cond}
+use Prim.Native.Nat.{_%_, ℕ}
+use lib.Dec.{ltb}
+use mathlib.Core.Bool.{cond}
 use Rattle.answers.specs.Answers.{answered, byteAnswer, unless22}
 use Rattle.chip_parts.specs.Parts.{onVoice, voiceOf, withQueue, withSelection}
 use Rattle.answers.specs.declared.Answered.{Answered}
@@ -13,10 +13,7 @@ use Rattle.queue.specs.declared.Write.{Write}
 use Rattle.chip.specs.Range.{chipIn}
 use Rattle.refusals.specs.Numbers.{accepted, outOfRange}
 use Rattle.registers.specs.Registers.{applyRegister, byteAt}
-
--- port bit 1 clear
-abbrev pub bit1Clear : ℕ → Bool
-bit1Clear port = eqb (port / 2 % 2) 0
+pub use Rattle.steps_registers.specs.RegisterSteps.{bit1Clear}
 
 -- "the write with the current stamp and selected number", 14 and 15 included
 abbrev pub stamped : ℕ → Chip → Write

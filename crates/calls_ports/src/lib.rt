@@ -1,6 +1,6 @@
 // The ports. 01, "Registers and ports".
 ghost use mathlib.Core.Path.{_≡_};
-ghost use Rattle.calls_ports.specs.Ports.{bit1Clear, queued, readPort, writePort, writePortImmediate};
+ghost use Rattle.calls_ports.specs.Ports.{queued, readPort, writePort, writePortImmediate};
 ghost use Rattle.chip_parts.specs.Parts.{withSelection};
 use answers::Answered;
 use answers::Byte;
@@ -15,7 +15,7 @@ pub fn write_port(chip: Chip, port: u8, value: u8) -> Answered
     if !chip::in_range(chip) {
         return answers::refused(chip);
     }
-    if bit_1_clear(port) {
+    if steps_registers::bit_1_clear(port) {
         return answers::accepted(with_selection(chip, value % 16));
     }
     let write = Write {
@@ -29,14 +29,13 @@ pub fn write_port(chip: Chip, port: u8, value: u8) -> Answered
 pub fn write_port_immediate(chip: Chip, port: u8, value: u8) -> Answered
     ensures { λ r. ⌜ r ≡ writePortImmediate port value chip ⌝ }
 {
-    if !chip::in_range(chip) {
-        return answers::refused(chip);
+    let ok = chip::in_range(chip);
+    let r = steps_voice::write_port_immediate(ok, chip.core.voice, chip.core.selected, port, value);
+    let after = with_selection(chip_parts::with_voice(chip, r.voice), r.selected);
+    Answered {
+        chip: after,
+        no: r.no,
     }
-    if bit_1_clear(port) {
-        return answers::accepted(with_selection(chip, value % 16));
-    }
-    let voice = chip.core.voice.apply_register(chip.core.selected, value);
-    answers::accepted(chip_parts::with_voice(chip, voice))
 }
 
 pub fn read_port(chip: Chip, port: u8) -> Byte
@@ -46,12 +45,6 @@ pub fn read_port(chip: Chip, port: u8) -> Byte
     let voice = chip.core.voice;
     let bytes = voice.registers;
     steps_registers::read_port(ok, bytes, chip.core.selected, port)
-}
-
-fn bit_1_clear(port: u8) -> bool
-    ensures { λ r. ⌜ r ≡ bit1Clear port ⌝ }
-{
-    port / 2 % 2 == 0
 }
 
 fn with_selection(chip: Chip, selected: u8) -> Chip

@@ -9,11 +9,13 @@ use chip::Chip;
 pub fn write_register(chip: Chip, register: u8, value: u8) -> Answered
     ensures { λ r. ⌜ r ≡ writeRegister register value chip ⌝ }
 {
-    if !chip::in_range(chip) {
-        return answers::refused(chip);
+    let ok = chip::in_range(chip);
+    let r = steps_voice::write_register(ok, chip.core.voice, register, value);
+    let after = chip_parts::with_voice(chip, r.voice);
+    Answered {
+        chip: after,
+        no: r.no,
     }
-    let voice = chip.core.voice.apply_register(register, value);
-    answers::accepted(chip_parts::with_voice(chip, voice))
 }
 
 pub fn read_register(chip: Chip, register: u8) -> Byte
@@ -29,11 +31,13 @@ pub fn read_register(chip: Chip, register: u8) -> Byte
 pub fn load_registers(chip: Chip, bytes: [u8; 16]) -> Answered
     ensures { λ r. ⌜ r ≡ loadRegisters bytes chip ⌝ }
 {
-    if !chip::in_range(chip) {
-        return answers::refused(chip);
+    let ok = chip::in_range(chip);
+    let r = steps_voice::load_registers(ok, chip.core.voice, bytes);
+    let after = chip_parts::with_voice(chip, r.voice);
+    Answered {
+        chip: after,
+        no: r.no,
     }
-    let voice = all_registers::load_registers(chip.core.voice, bytes);
-    answers::accepted(chip_parts::with_voice(chip, voice))
 }
 
 pub fn dump_registers(chip: Chip) -> Bytes

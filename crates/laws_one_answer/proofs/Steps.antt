@@ -16,6 +16,7 @@ steps =
       write-register = λ h x y. by-answer (h .𝓤);
       load-registers = λ h x y. by-answer (h .𝓤);
       write-port-immediate = λ h x y. by-answer (h .𝓤);
+      bit-1-clear = λ h x y. by-answer (h .𝓤);
       read-register = λ h x y. by-answer (h .𝓤);
       dump-registers = λ h x y. by-answer (h .𝓤);
       read-port = λ h x y. by-answer (h .𝓤);

@@ -10,6 +10,7 @@ use Rattle.steps_cycles.proofs.pending_write_count as pending-write-count
 use Rattle.steps_voice.proofs.write_register as write-register
 use Rattle.steps_voice.proofs.load_registers as load-registers
 use Rattle.steps_voice.proofs.write_port_immediate as write-port-immediate
+use Rattle.steps_registers.proofs.bit_1_clear as bit-1-clear
 use Rattle.steps_registers.proofs.read_register as read-register
 use Rattle.steps_registers.proofs.dump_registers as dump-registers
 use Rattle.steps_registers.proofs.read_port as read-port
@@ -42,6 +43,7 @@ pub record Steps : Type 2 where
   pub write-register : Settles write-register.ended (λ M. write-register.clauses)
   pub load-registers : Settles load-registers.ended (λ M. load-registers.clauses)
   pub write-port-immediate : Settles write-port-immediate.ended (λ M. write-port-immediate.clauses)
+  pub bit-1-clear : Settles bit-1-clear.ended (λ M. bit-1-clear.clauses)
   pub read-register : Settles read-register.ended (λ M. read-register.clauses)
   pub dump-registers : Settles dump-registers.ended (λ M. dump-registers.clauses)
   pub read-port : Settles read-port.ended (λ M. read-port.clauses)

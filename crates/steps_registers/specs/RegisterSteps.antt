@@ -9,6 +9,10 @@ use Rattle.answers.specs.declared.Byte.{Byte}
 use Rattle.answers.specs.declared.Bytes.{Bytes}
 use Rattle.refusals.specs.Numbers.{accepted, outOfRange}
 
+-- port bit 1 clear
+abbrev pub bit1Clear : ℕ → Bool
+bit1Clear port = eqb (port / 2 % 2) 0
+
 -- Reading registers 14 and up gives 0.
 unfoldable pub registerSaid : Bool → List ℕ → ℕ → Byte
 registerSaid ok bytes register =
@@ -29,7 +33,7 @@ dumpSaid ok bytes = cond ok (record { no = accepted; bytes = padded bytes }) (re
 unfoldable pub portSaid : Bool → List ℕ → ℕ → ℕ → Byte
 portSaid ok bytes selected port =
     cond ok
-    (cond (eqb (port / 2 % 2) 0)
+    (cond (bit1Clear port)
     (cond (ltb selected 14) (byteAnswer accepted (getD bytes selected 0)) (byteAnswer accepted 0xff))
     (byteAnswer accepted 0xff))
     (byteAnswer outOfRange 0)

@@ -1,6 +1,6 @@
 // What the calls that read registers answer of a lent record's parts: `ok` is the test of the record. 01, "Registers and ports".
 ghost use mathlib.Core.Path.{_≡_};
-ghost use Rattle.steps_registers.specs.RegisterSteps.{dumpSaid, padded, portSaid, registerSaid};
+ghost use Rattle.steps_registers.specs.RegisterSteps.{bit1Clear, dumpSaid, padded, portSaid, registerSaid};
 use answers::Byte;
 use answers::Bytes;
 
@@ -51,7 +51,7 @@ pub fn read_port(ok: bool, bytes: [u8; 14], selected: u8, port: u8) -> Byte
             value: 0,
         };
     }
-    if port / 2 % 2 == 0 {
+    if bit_1_clear(port) {
         if selected < registers::REGISTERS {
             let at = selected as usize;
             return Byte {
@@ -64,6 +64,13 @@ pub fn read_port(ok: bool, bytes: [u8; 14], selected: u8, port: u8) -> Byte
         no: refusals::ACCEPTED,
         value: 0xff,
     }
+}
+
+// Port bit 1 clear selects, or reads; set, it writes.
+pub fn bit_1_clear(port: u8) -> bool
+    ensures { λ r. ⌜ r ≡ bit1Clear port ⌝ }
+{
+    port / 2 % 2 == 0
 }
 
 // The fourteen bytes, and two zeros.

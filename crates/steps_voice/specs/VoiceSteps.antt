@@ -1,10 +1,10 @@
 -- What the register writes change of a lent record. 01, "Registers and ports". Assumes nothing.
 use mathlib.Core.Bool.{Bool, cond}
-use Prim.Native.Nat.{ℕ, _/_, _%_}
-use lib.Dec.{eqb}
+use Prim.Native.Nat.{ℕ, _%_}
 use Rattle.refusals.specs.Numbers.{accepted, outOfRange}
 use Rattle.registers.specs.declared.Voice.{Voice}
 use Rattle.registers.specs.Registers.{applyRegister}
+use Rattle.steps_registers.specs.RegisterSteps.{bit1Clear}
 use Rattle.steps_voice.specs.declared.PortWritten.{PortWritten}
 use Rattle.steps_voice.specs.declared.Voiced.{Voiced}
 
@@ -19,5 +19,5 @@ written voice selected number = record { voice = voice; selected = selected; no 
 unfoldable pub portWritten : Bool → Voice → ℕ → ℕ → ℕ → PortWritten
 portWritten ok voice selected port value =
     cond ok
-    (cond (eqb (port / 2 % 2) 0) (written voice (value % 16) accepted) (written (applyRegister selected value voice) selected accepted))
+    (cond (bit1Clear port) (written voice (value % 16) accepted) (written (applyRegister selected value voice) selected accepted))
     (written voice selected outOfRange)

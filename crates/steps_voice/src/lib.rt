@@ -66,7 +66,7 @@ pub fn write_port_immediate(
             no: refusals::OUT_OF_RANGE,
         };
     }
-    if port / 2 % 2 == 0 {
+    if steps_registers::bit_1_clear(port) {
         return PortWritten {
             voice,
             selected: value % 16,

@@ -1,21 +1,17 @@
--- `calls_cycles::cpu_cycle` meets its contract: the record's test says which case holds. Assumes nothing.
-use mathlib.Core.Path.{refl}
-use Rattle.laws.proofs.Tests.{on-no, on-yes}
-use Rattle.calls_cycles.specs.Cycles.{cpuCycle}
+-- `calls_cycles::cpu_cycle` meets its contract: its step's, on parts of the chip. Assumes nothing.
 use borrow.Author.Needs.{needs}
+use Rattle.calls_cycles.proofs.Stepped.{cycle-said}
 use Rattle.calls_cycles.proofs.cpu_cycle.Statement.{statement}
 use Rattle.calls_cycles.proofs.cpu_cycle.Tie as tie
 
 in-range-requires : tie.Need-in-range-requires
 in-range-requires c κs = search needs
 
-returns : tie.Need-returns
-unfolding cpuCycle
-returns c = on-no _ _ _ _ _ (c .before .in-range .ensures) (c .if1 .taken) refl
+cpu-cycle-requires : tie.Need-cpu-cycle-requires
+cpu-cycle-requires c κs = search needs
 
-returns-2 : tie.Need-returns-2
-unfolding cpuCycle
-returns-2 c = on-yes _ _ _ _ _ (c .before .in-range .ensures) (c .if1 .left) refl
+returns : tie.Need-returns
+returns c = rw (c .cpu-cycle .ensures, c .before .in-range .ensures) (cycle-said _)
 
 pub cpu-cycle-spec : {M : Type 1} → statement M
-cpu-cycle-spec = tie.close (tie.spec in-range-requires returns returns-2)
+cpu-cycle-spec = tie.close (tie.spec in-range-requires cpu-cycle-requires returns)

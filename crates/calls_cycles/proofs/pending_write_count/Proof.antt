@@ -1,21 +1,17 @@
--- `calls_cycles::pending_write_count` meets its contract: the record's test says which case holds. Assumes nothing.
-use mathlib.Core.Path.{refl}
-use Rattle.laws.proofs.Tests.{on-no, on-yes}
-use Rattle.calls_cycles.specs.Cycles.{pendingWriteCount}
+-- `calls_cycles::pending_write_count` meets its contract: its step's, on parts of the chip. Assumes nothing.
 use borrow.Author.Needs.{needs}
+use Rattle.calls_cycles.proofs.Stepped.{count-said}
 use Rattle.calls_cycles.proofs.pending_write_count.Statement.{statement}
 use Rattle.calls_cycles.proofs.pending_write_count.Tie as tie
 
 in-range-requires : tie.Need-in-range-requires
 in-range-requires c κs = search needs
 
-returns : tie.Need-returns
-unfolding pendingWriteCount
-returns c = on-no _ _ _ _ _ (c .before .in-range .ensures) (c .if1 .taken) refl
+pending-write-count-requires : tie.Need-pending-write-count-requires
+pending-write-count-requires c κs = search needs
 
-returns-2 : tie.Need-returns-2
-unfolding pendingWriteCount
-returns-2 c = on-yes _ _ _ _ _ (c .before .in-range .ensures) (c .if1 .left) refl
+returns : tie.Need-returns
+returns c = rw (c .pending-write-count .ensures, c .before .in-range .ensures) (count-said _)
 
 pub pending-write-count-spec : {M : Type 1} → statement M
-pending-write-count-spec = tie.close (tie.spec in-range-requires returns returns-2)
+pending-write-count-spec = tie.close (tie.spec in-range-requires pending-write-count-requires returns)

@@ -1,27 +1,17 @@
--- `calls_cycles::set_cpu_cycle` meets its contract: the record's test says which case holds. Assumes nothing.
-use Rattle.laws.proofs.Tests.{on-no, on-yes}
-use Rattle.calls_cycles.specs.Cycles.{setCpuCycle}
+-- `calls_cycles::set_cpu_cycle` meets its contract: its step's, on parts of the chip. Assumes nothing.
 use borrow.Author.Needs.{needs}
+use Rattle.calls_cycles.proofs.Stepped.{stamp-set}
 use Rattle.calls_cycles.proofs.set_cpu_cycle.Statement.{statement}
 use Rattle.calls_cycles.proofs.set_cpu_cycle.Tie as tie
 
 in-range-requires : tie.Need-in-range-requires
 in-range-requires c κs = search needs
 
-refused-requires : tie.Need-refused-requires
-refused-requires c κs = search needs
+set-cpu-cycle-requires : tie.Need-set-cpu-cycle-requires
+set-cpu-cycle-requires c κs = search needs
 
 returns : tie.Need-returns
-unfolding setCpuCycle
-returns c = on-no _ _ _ _ _ (c .before .before .in-range .ensures) (c .before .if1 .taken) (c .refused .ensures)
-
-accepted-requires : tie.Need-accepted-requires
-accepted-requires c κs = search needs
-
-returns-2 : tie.Need-returns-2
-unfolding setCpuCycle
-returns-2 c = on-yes _ _ _ _ _ (c .before .before .before .in-range .ensures) (c .before .before .if1 .left) (c .accepted .ensures)
+returns c = rw (c .before .set-cpu-cycle .ensures, c .before .before .in-range .ensures) (stamp-set _ _)
 
 pub set-cpu-cycle-spec : {M : Type 1} → statement M
-set-cpu-cycle-spec =
-    tie.close (tie.spec in-range-requires refused-requires returns accepted-requires returns-2)
+set-cpu-cycle-spec = tie.close (tie.spec in-range-requires set-cpu-cycle-requires returns)

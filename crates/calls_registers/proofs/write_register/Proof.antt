@@ -1,42 +1,20 @@
--- `calls_registers::write_register` meets its contract: the record's test says which case holds. Assumes nothing.
-use Rattle.laws.proofs.Tests.{on-no, on-yes}
-use Rattle.answers.proofs.Laws.{voiced}
-use Rattle.calls_registers.specs.Stored.{writeRegister}
+-- `calls_registers::write_register` meets its contract: its step's, on parts of the chip. Assumes nothing.
 use borrow.Author.Needs.{needs}
+use Rattle.calls_registers.proofs.Stepped.{write-set}
 use Rattle.calls_registers.proofs.write_register.Statement.{statement}
 use Rattle.calls_registers.proofs.write_register.Tie as tie
 
 in-range-requires : tie.Need-in-range-requires
 in-range-requires c κs = search needs
 
-refused-requires : tie.Need-refused-requires
-refused-requires c κs = search needs
-
-returns : tie.Need-returns
-unfolding writeRegister
-returns c = on-no _ _ _ _ _ (c .before .before .in-range .ensures) (c .before .if1 .taken) (c .refused .ensures)
-
-apply-register-requires : tie.Need-apply-register-requires
-apply-register-requires c κs = search needs
+write-register-requires : tie.Need-write-register-requires
+write-register-requires c κs = search needs
 
 with-voice-requires : tie.Need-with-voice-requires
 with-voice-requires c κs = search needs
 
-accepted-requires : tie.Need-accepted-requires
-accepted-requires c κs = search needs
-
-returns-2 : tie.Need-returns-2
-unfolding writeRegister
-returns-2 c = on-yes _ _ _ _ _ (c .before .before .before .before .in-range .ensures) (c .before .before .before .if1 .left) (voiced (c .before .before .before .before .before .args .chip) (c .accepted .ensures) (c .before .with-voice .ensures) (c .before .before .apply-register .ensures))
+returns : tie.Need-returns
+returns c = rw (c .with-voice .ensures, c .before .write-register .ensures, c .before .before .in-range .ensures) (write-set _ _ _)
 
 pub write-register-spec : {M : Type 1} → statement M
-write-register-spec =
-    tie.close
-    (tie.spec
-    in-range-requires
-    refused-requires
-    returns
-    apply-register-requires
-    with-voice-requires
-    accepted-requires
-    returns-2)
+write-register-spec = tie.close (tie.spec in-range-requires write-register-requires with-voice-requires returns)

@@ -1,0 +1,45 @@
+-- The calls on stamps are what their steps make and answer of the chip's stamp, start and count. Assumes nothing.
+use mathlib.Core.Path.{_≡_, refl}
+use mathlib.Core.Bool.{Bool, true, false, cond}
+use Prim.Native.Nat.{ℕ}
+use Rattle.refusals.specs.Numbers.{accepted, outOfRange}
+use Rattle.chip.specs.declared.Chip.{Chip}
+use Rattle.chip.specs.Range.{chipIn}
+use Rattle.chip_parts.specs.Parts.{withTimes}
+use Rattle.answers.specs.Answers.{answered}
+use Rattle.answers.specs.declared.Answered.{Answered}
+use Rattle.steps_cycles.specs.declared.Stamped.{Stamped}
+use Rattle.steps_cycles.specs.declared.Synced.{Synced}
+use Rattle.steps_cycles.specs.CycleSteps.{bothSet, countSaid, cycleSaid, stamped, stampSet, synced}
+use Rattle.calls_cycles.specs.Cycles.{cpuCycle, pendingWriteCount, setCpuCycle, syncSampleCycle}
+
+-- the chip after a step, and its number
+abbrev pub with-stamp : Stamped → Chip → Answered
+with-stamp r c = answered (r .no) (withTimes (r .stamp) (c .core .start) c)
+
+stamp-same : (ok : Bool) (n : ℕ) (c : Chip) → with-stamp (cond ok (stamped n accepted) (stamped (c .core .stamp) outOfRange)) c ≡ cond ok (answered accepted (withTimes n (c .core .start) c)) (answered outOfRange c)
+stamp-same true n c = refl
+stamp-same false n c = refl
+
+pub stamp-set : (n : ℕ) (c : Chip) → with-stamp (stampSet (chipIn c) (c .core .stamp) n) c ≡ setCpuCycle n c
+unfolding stampSet setCpuCycle
+stamp-set n c = stamp-same (chipIn c) n c
+
+abbrev pub with-both : Synced → Chip → Answered
+with-both r c = answered (r .no) (withTimes (r .stamp) (r .start) c)
+
+both-same : (ok : Bool) (n : ℕ) (c : Chip) → with-both (cond ok (synced n n accepted) (synced (c .core .stamp) (c .core .start) outOfRange)) c ≡ cond ok (answered accepted (withTimes n n c)) (answered outOfRange c)
+both-same true n c = refl
+both-same false n c = refl
+
+pub both-set : (n : ℕ) (c : Chip) → with-both (bothSet (chipIn c) (c .core .stamp) (c .core .start) n) c ≡ syncSampleCycle n c
+unfolding bothSet syncSampleCycle
+both-set n c = both-same (chipIn c) n c
+
+pub cycle-said : (c : Chip) → cycleSaid (chipIn c) (c .core .stamp) ≡ cpuCycle c
+unfolding cycleSaid cpuCycle
+cycle-said c = refl
+
+pub count-said : (c : Chip) → countSaid (chipIn c) (c .queue .count) ≡ pendingWriteCount c
+unfolding countSaid pendingWriteCount
+count-said c = refl
