@@ -1,6 +1,6 @@
 // Mutes, drums and last outputs. 01, "Numbers a call can answer" and "One tick, one word".
 ghost use mathlib.Core.Path.{_≡_};
-ghost use Rattle.calls_channels.specs.ChannelCalls.{forChannel, getChannelOutputs, isChannelMuted, setChannelMute, setDrumSampleOverride};
+ghost use Rattle.calls_channels.specs.ChannelCalls.{getChannelOutputs, isChannelMuted, setChannelMute, setDrumSampleOverride};
 use answers::Answered;
 use answers::Flag;
 use answers::Outputs;
@@ -11,7 +11,17 @@ use three_channels::Channels;
 pub fn set_channel_mute(chip: Chip, channel: usize, muted: bool) -> Answered
     ensures { λ r. ⌜ r ≡ setChannelMute channel muted chip ⌝ }
 {
-    for_channel(chip, channel, chip.core.channels.set_mute(channel, muted))
+    let ok = chip::in_range(chip);
+    let s = chip.core.channels;
+    let r = steps_channels::set_channel_mute(ok, s.a.muted, s.b.muted, s.c.muted, channel, muted);
+    let a = s.a.with_mute(r.a);
+    let b = s.b.with_mute(r.b);
+    let c = s.c.with_mute(r.c);
+    let after = chip_parts::with_channels(chip, Channels { a, b, c });
+    Answered {
+        chip: after,
+        no: r.no,
+    }
 }
 
 pub fn is_channel_muted(chip: Chip, channel: usize) -> Flag
@@ -25,11 +35,26 @@ pub fn is_channel_muted(chip: Chip, channel: usize) -> Flag
 pub fn set_drum_sample_override(chip: Chip, channel: usize, drum: Drum) -> Answered
     ensures { λ r. ⌜ r ≡ setDrumSampleOverride channel drum chip ⌝ }
 {
-    for_channel(
-        chip,
-        channel,
-        chip.core.channels.set_drum_override(channel, drum),
-    )
+    let ok = chip::in_range(chip);
+    let s = chip.core.channels;
+    let first = s.a;
+    let second = s.b;
+    let third = s.c;
+    let a = first.drum;
+    let b = second.drum;
+    let c = third.drum;
+    let r = steps_channels::set_drum_sample_override(ok, a, b, c, channel, drum);
+    let a = r.a;
+    let b = r.b;
+    let c = r.c;
+    let a = first.with_drum(a);
+    let b = second.with_drum(b);
+    let c = third.with_drum(c);
+    let after = chip_parts::with_channels(chip, Channels { a, b, c });
+    Answered {
+        chip: after,
+        no: r.no,
+    }
 }
 
 pub fn get_channel_outputs(chip: Chip) -> Outputs
@@ -38,20 +63,4 @@ pub fn get_channel_outputs(chip: Chip) -> Outputs
     let ok = chip::in_range(chip);
     let s = chip.core.channels;
     steps_channels::get_channel_outputs(ok, s.a.output, s.b.output, s.c.output)
-}
-
-// The channels are set, unless there is no such channel.
-fn for_channel(chip: Chip, channel: usize, channels: Channels) -> Answered
-    ensures { λ r. ⌜ r ≡ forChannel channel channels chip ⌝ }
-{
-    if !chip::in_range(chip) {
-        return answers::refused(chip);
-    }
-    if channel >= 3 {
-        return Answered {
-            chip,
-            no: refusals::NO_SUCH_CHANNEL,
-        };
-    }
-    answers::accepted(chip_parts::with_channels(chip, channels))
 }
