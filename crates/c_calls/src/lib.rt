@@ -3,7 +3,6 @@
 ghost use mathlib.Core.Path.{_≡_};
 ghost use Rattle.c_calls.specs.Calls.{onRecord};
 ghost use Rattle.calls_making.specs.Making.{resetCall};
-ghost use Rattle.calls_ports.specs.Ports.{writePort};
 ghost use Rattle.calls_cycles.specs.Cycles.{flushPendingWrites};
 use c_record::Record;
 use c_told::Told;
@@ -13,13 +12,6 @@ pub fn reset(chip: Record) -> Told
 {
     let held = c_record::chip_of(chip);
     c_told::tell(chip, calls_making::reset(held))
-}
-
-pub fn write_port(chip: Record, port: u8, value: u8) -> Told
-    ensures { λ r. ⌜ r ≡ onRecord (writePort port value) chip ⌝ }
-{
-    let held = c_record::chip_of(chip);
-    c_told::tell(chip, calls_ports::write_port(held, port, value))
 }
 
 pub fn flush_pending_writes(chip: Record) -> Told

@@ -106,9 +106,28 @@ pub extern "C" fn ym2149_write_port(chip: &mut Record, port: u8, value: u8) -> u
     ensures { λ r. ⌜ (r ≡ onRecord (writePort port value) (now (chip .entry)) .no)
         × (now (chip .exit) ≡ onRecord (writePort port value) (now (chip .entry)) .chip) ⌝ }
 {
-    let r = c_calls::write_port(*chip, port, value);
-    *chip = r.chip;
-    r.no
+    let ok = lent_record::in_range(&*chip);
+    let queued = c_steps::write_port(
+        ok,
+        chip.core.a.drum,
+        chip.core.b.drum,
+        chip.core.c.drum,
+        chip.core.selected,
+        chip.core.stamp,
+        chip.queue.head,
+        chip.queue.count,
+        port,
+        value,
+    );
+    chip.core.a.drum = queued.a;
+    chip.core.b.drum = queued.b;
+    chip.core.c.drum = queued.c;
+    chip.core.selected = queued.selected;
+    chip.queue.count = queued.count;
+    queue_slot::put_stamp(&mut chip.queue.stamps, queued.at, queued.stamp);
+    queue_slot::put_byte(&mut chip.queue.registers, queued.at, queued.register);
+    queue_slot::put_byte(&mut chip.queue.values, queued.at, queued.value);
+    queued.no
 }
 
 #[no_mangle]
@@ -310,8 +329,30 @@ pub extern "C" fn ym2149_compute_next_sample(chip: &mut Record) -> Sample
     ensures { λ r. ⌜ (r ≡ nextWord (now (chip .entry)) .answer)
         × (now (chip .exit) ≡ nextWord (now (chip .entry)) .chip) ⌝ }
 {
-    let r = c_words::compute_next_sample(*chip);
-    *chip = r.chip;
+    let ok = lent_record::in_range(&*chip);
+    let r = c_words::compute_next_sample(
+        &chip.queue.stamps,
+        &chip.queue.registers,
+        &chip.queue.values,
+        ok,
+        chip.core.clocks,
+        chip.core.voice,
+        chip.core.a,
+        chip.core.b,
+        chip.core.c,
+        chip.core.accumulator,
+        chip.core.start,
+        chip.queue.head,
+        chip.queue.count,
+    );
+    chip.core.voice = r.voice;
+    chip.core.a = r.a;
+    chip.core.b = r.b;
+    chip.core.c = r.c;
+    chip.core.accumulator = r.accumulator;
+    chip.core.start = r.start;
+    chip.queue.head = r.head;
+    chip.queue.count = r.count;
     r.answer
 }
 

@@ -117,7 +117,7 @@ fn record_core(core: Core) -> RecordCore
     }
 }
 
-fn channel_of(channel: RecordChannel) -> Channel
+pub fn channel_of(channel: RecordChannel) -> Channel
     ensures { λ r. ⌜ r ≡ channelOf channel ⌝ }
 {
     let drum = drum_of(channel.drum);
@@ -129,7 +129,7 @@ fn channel_of(channel: RecordChannel) -> Channel
     }
 }
 
-fn record_channel(channel: Channel) -> RecordChannel
+pub fn record_channel(channel: Channel) -> RecordChannel
     ensures { λ r. ⌜ r ≡ recordChannel channel ⌝ }
 {
     let held = channel.drum;

@@ -21,6 +21,8 @@ use Rattle.c_steps.specs.declared.RecordDrummed.{RecordDrummed}
 use Rattle.c_steps.specs.declared.RecordFlagged.{RecordFlagged}
 use Rattle.c_steps.specs.declared.RecordMuted.{RecordMuted}
 use Rattle.c_steps.specs.declared.RecordTriggered.{RecordTriggered}
+use Rattle.steps_ports.specs.declared.PortQueued.{PortQueued}
+use Rattle.c_steps.specs.declared.RecordQueued.{RecordQueued}
 
 -- A refused call changes nothing; an accepted one leaves the drum that the record holds, and one that is off has no level.
 unfoldable pub settled : ℕ → RecordDrum → RecordDrum
@@ -54,3 +56,18 @@ recordDrummed a b c d =
     cond (eqb (d .no) accepted)
     (record { a = recordDrum (d .a); b = recordDrum (d .b); c = recordDrum (d .c); no = d .no })
     (record { a = a; b = b; c = c; no = d .no })
+
+abbrev pub recordQueued : RecordDrum → RecordDrum → RecordDrum → PortQueued → RecordQueued
+recordQueued a b c p =
+    record {
+      a = settled (p .no) a;
+      b = settled (p .no) b;
+      c = settled (p .no) c;
+      selected = p .selected;
+      count = p .count;
+      at = p .at;
+      stamp = p .stamp;
+      register = p .register;
+      value = p .value;
+      no = p .no;
+    }

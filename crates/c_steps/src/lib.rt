@@ -8,7 +8,8 @@ ghost use Rattle.steps_voice.specs.VoiceSteps.{portWritten, voiced};
 ghost use Rattle.steps_effects.specs.EffectSteps.{flagSet, triggerSet};
 ghost use Rattle.steps_channels.specs.ChannelSteps.{drumsSet, mutesSet};
 ghost use Rattle.c_record.specs.Record.{drumOf};
-ghost use Rattle.c_steps.specs.RecordSteps.{recordDrummed, recordFlagged, recordMuted, recordPort, recordStamped, recordSynced, recordTriggered, recordVoiced, settled};
+ghost use Rattle.steps_ports.specs.PortSteps.{portQueued};
+ghost use Rattle.c_steps.specs.RecordSteps.{recordDrummed, recordFlagged, recordMuted, recordPort, recordQueued, recordStamped, recordSynced, recordTriggered, recordVoiced, settled};
 use c_record::RecordDrum;
 use c_record::Registers;
 use envelope::Envelope;
@@ -88,6 +89,20 @@ pub struct RecordDrummed {
     pub a: RecordDrum,
     pub b: RecordDrum,
     pub c: RecordDrum,
+    pub no: u8,
+}
+
+// The drums, the selection and the count to store, the slot to write and what to write there, and the call's number.
+pub struct RecordQueued {
+    pub a: RecordDrum,
+    pub b: RecordDrum,
+    pub c: RecordDrum,
+    pub selected: u8,
+    pub count: usize,
+    pub at: usize,
+    pub stamp: u64,
+    pub register: u8,
+    pub value: u8,
     pub no: u8,
 }
 
@@ -294,6 +309,35 @@ pub fn set_drum_sample_override(
         a: c_record::record_drum(first),
         b: c_record::record_drum(second),
         c: c_record::record_drum(third),
+        no: r.no,
+    }
+}
+
+pub fn write_port(
+    ok: bool,
+    a: RecordDrum,
+    b: RecordDrum,
+    c: RecordDrum,
+    selected: u8,
+    stamp: u64,
+    head: usize,
+    count: usize,
+    port: u8,
+    value: u8,
+) -> RecordQueued
+    ensures { λ r. ⌜ r ≡ recordQueued a b c (portQueued ok selected stamp head count port value) ⌝ }
+{
+    let r = steps_ports::write_port(ok, selected, stamp, head, count, port, value);
+    RecordQueued {
+        a: settled(r.no, a),
+        b: settled(r.no, b),
+        c: settled(r.no, c),
+        selected: r.selected,
+        count: r.count,
+        at: r.at,
+        stamp: r.stamp,
+        register: r.register,
+        value: r.value,
         no: r.no,
     }
 }

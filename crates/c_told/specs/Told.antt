@@ -10,7 +10,7 @@ use Rattle.c_record.specs.declared.Record.{Record}
 use Rattle.c_record.specs.Record.{recordOf}
 use Rattle.c_told.specs.declared.Told.{Told}
 use Rattle.c_told.specs.declared.ToldBlock.{ToldBlock}
-use Rattle.c_told.specs.declared.ToldSample.{ToldSample}
+use Rattle.answers.specs.declared.Sample.{Sample}
 use Rattle.refusals.specs.Numbers.{accepted}
 
 -- A refused call changes nothing: the record is as it was lent.
@@ -20,6 +20,10 @@ lentBack x number c = cond (eqb number accepted) (recordOf c) x
 -- the record after a call, and what the call answers
 abbrev pub told : Record → Answered → Told
 told x a = record { chip = lentBack x (a .no) (a .chip); no = a .no }
+
+pub record ToldSample : Type 0 where
+  pub chip : Record
+  pub answer : Sample
 
 abbrev pub toldSample : Record → Sampled → ToldSample
 toldSample x a = record { chip = lentBack x (a .answer .no) (a .chip); answer = a .answer }

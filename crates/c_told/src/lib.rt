@@ -1,11 +1,9 @@
 // What a call leaves in a host's record, and what it answers. 01, "Numbers a call can answer".
 ghost use mathlib.Core.Path.{_≡_};
-ghost use Rattle.c_told.specs.Told.{lentBack, told, toldBlock, toldSample};
+ghost use Rattle.c_told.specs.Told.{lentBack, told, toldBlock};
 use answers::Answered;
 use answers::Blocked;
 use answers::Played;
-use answers::Sample;
-use answers::Sampled;
 use c_record::Record;
 use chip::Chip;
 
@@ -13,11 +11,6 @@ use chip::Chip;
 pub struct Told {
     pub chip: Record,
     pub no: u8,
-}
-
-pub struct ToldSample {
-    pub chip: Record,
-    pub answer: Sample,
 }
 
 pub struct ToldBlock {
@@ -31,14 +24,6 @@ pub fn tell(lent: Record, answered: Answered) -> Told
     let no = answered.no;
     let chip = lent_back(lent, no, answered.chip);
     Told { chip, no }
-}
-
-pub fn tell_sample(lent: Record, sampled: Sampled) -> ToldSample
-    ensures { λ r. ⌜ r ≡ toldSample lent sampled ⌝ }
-{
-    let answer = sampled.answer;
-    let chip = lent_back(lent, answer.no, sampled.chip);
-    ToldSample { chip, answer }
 }
 
 pub fn tell_block(lent: Record, blocked: Blocked) -> ToldBlock

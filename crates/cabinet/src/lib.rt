@@ -49,8 +49,21 @@ pub fn write_port(chip: &mut Chip, port: u8, value: u8) -> u8
     ensures { λ r. ⌜ (r ≡ writePort port value (now (chip .entry)) .no)
         × (now (chip .exit) ≡ writePort port value (now (chip .entry)) .chip) ⌝ }
 {
-    let r = calls_ports::write_port(*chip, port, value);
-    *chip = r.chip;
+    let ok = lent_chip::in_range(&*chip);
+    let r = steps_ports::write_port(
+        ok,
+        chip.core.selected,
+        chip.core.stamp,
+        chip.queue.head,
+        chip.queue.count,
+        port,
+        value,
+    );
+    chip.core.selected = r.selected;
+    chip.queue.count = r.count;
+    queue_slot::put_stamp(&mut chip.queue.stamps, r.at, r.stamp);
+    queue_slot::put_byte(&mut chip.queue.registers, r.at, r.register);
+    queue_slot::put_byte(&mut chip.queue.values, r.at, r.value);
     r.no
 }
 

@@ -10,8 +10,26 @@ use chip::Chip;
 pub fn compute_next_sample(chip: &mut Chip) -> Sample
     ensures { λ r. ⌜ (r ≡ sampled (now (chip .entry)) .answer) × (now (chip .exit) ≡ sampled (now (chip .entry)) .chip) ⌝ }
 {
-    let r = calls_words::compute_next_sample(*chip);
-    *chip = r.chip;
+    let ok = lent_chip::in_range(&*chip);
+    let r = steps_words::compute_next_sample(
+        &chip.queue.stamps,
+        &chip.queue.registers,
+        &chip.queue.values,
+        ok,
+        chip.core.clocks,
+        chip.core.voice,
+        chip.core.channels,
+        chip.core.accumulator,
+        chip.core.start,
+        chip.queue.head,
+        chip.queue.count,
+    );
+    chip.core.voice = r.voice;
+    chip.core.channels = r.channels;
+    chip.core.accumulator = r.accumulator;
+    chip.core.start = r.start;
+    chip.queue.head = r.head;
+    chip.queue.count = r.count;
     r.answer
 }
 

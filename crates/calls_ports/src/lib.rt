@@ -8,20 +8,31 @@ use chip::Chip;
 use queue::Pushed;
 use queue::Write;
 
-// Port bit 1 clear selects at once; set, it queues the write.
+// Port bit 1 clear selects at once; set, it queues the write. The step says which slot is written; the ring pushes there.
 pub fn write_port(chip: Chip, port: u8, value: u8) -> Answered
     ensures { λ r. ⌜ r ≡ writePort port value chip ⌝ }
 {
-    if !chip::in_range(chip) {
-        return answers::refused(chip);
-    }
-    if steps_registers::bit_1_clear(port) {
-        return answers::accepted(with_selection(chip, value % 16));
+    let ok = chip::in_range(chip);
+    let step = steps_ports::write_port(
+        ok,
+        chip.core.selected,
+        chip.core.stamp,
+        chip.queue.head,
+        chip.queue.count,
+        port,
+        value,
+    );
+    if step.at >= steps_ports::NO_SLOT {
+        let after = with_selection(chip, step.selected);
+        return Answered {
+            chip: after,
+            no: step.no,
+        };
     }
     let write = Write {
-        stamp: chip.core.stamp,
-        register: chip.core.selected,
-        value,
+        stamp: step.stamp,
+        register: step.register,
+        value: step.value,
     };
     queued(chip, chip.queue.push(write))
 }

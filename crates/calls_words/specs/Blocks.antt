@@ -37,6 +37,3 @@ unfoldable pub sampled : Chip → Sampled
 sampled c =
     let b = blocked 1 c in
     record { chip = b .chip; answer = record { no = b .answer .no; word = getD (blockBuffer (0 ∷ []) c) 0 0; ticks = b .answer .ticks } }
-
-abbrev pub sampleRefused : ℕ → Chip → Sampled
-sampleRefused number c = record { chip = c; answer = record { no = number; word = 0; ticks = 0 } }

@@ -1,10 +1,9 @@
 // One word, and a block of words into a lent buffer. 01, "One tick, one word".
 ghost use mathlib.Core.Path.{_≡_};
 ghost use lib.ListN.{length};
-ghost use Rattle.calls_words.specs.Blocks.{blockBuffer, blockRefused, blocked, sampleRefused, sampled};
+ghost use Rattle.calls_words.specs.Blocks.{blockBuffer, blockRefused, blocked, sampled};
 use answers::Blocked;
 use answers::Played;
-use answers::Sample;
 use answers::Sampled;
 use chip::Chip;
 
@@ -38,20 +37,33 @@ pub fn block(chip: Chip, out: &mut [u16]) -> Blocked
 pub fn compute_next_sample(chip: Chip) -> Sampled
     ensures { λ r. ⌜ r ≡ sampled chip ⌝ }
 {
-    if !chip::in_range(chip) {
-        return unsampled(chip, refusals::OUT_OF_RANGE);
-    }
-    let no = block_limits::block_no(chip.core.start, chip.core.clocks.cycles, 1);
-    if no != refusals::ACCEPTED {
-        return unsampled(chip, no);
-    }
-    let one = clocking_one::one_word(chip);
-    let after = one.chip;
-    let answer = Sample {
-        no: refusals::ACCEPTED,
-        word: one.word,
-        ticks: one.ticks as u64,
-    };
+    let ok = chip::in_range(chip);
+    let ring = chip.queue;
+    let mut core = chip.core;
+    let word = steps_words::compute_next_sample(
+        &ring.stamps,
+        &ring.registers,
+        &ring.values,
+        ok,
+        core.clocks,
+        core.voice,
+        core.channels,
+        core.accumulator,
+        core.start,
+        ring.head,
+        ring.count,
+    );
+    let voice = word.voice;
+    let channels = word.channels;
+    core.voice = voice;
+    core.channels = channels;
+    core.accumulator = word.accumulator;
+    core.start = word.start;
+    let mut queue = ring;
+    queue.head = word.head;
+    queue.count = word.count;
+    let after = Chip { core, queue };
+    let answer = word.answer;
     Sampled {
         chip: after,
         answer,
@@ -68,16 +80,4 @@ pub fn refused(chip: Chip, number: u8) -> Blocked
         ticks: 0,
     };
     Blocked { chip, answer }
-}
-
-// Nothing changes, word 0, 0 ticks.
-fn unsampled(chip: Chip, number: u8) -> Sampled
-    ensures { λ r. ⌜ r ≡ sampleRefused number chip ⌝ }
-{
-    let answer = Sample {
-        no: number,
-        word: 0,
-        ticks: 0,
-    };
-    Sampled { chip, answer }
 }

@@ -9,7 +9,7 @@ use lib.Seq.{take-all}
 use Rattle.tables.specs.Levels.{levels}
 use Rattle.envelope_wave.specs.declared.Wave.{Wave}
 use Rattle.envelope_wave.specs.Wave.{waveOf}
-use Rattle.mixer.specs.declared.Mixed.{Mixed}
+use Rattle.three_channels.specs.declared.Channels.{Channels}
 use Rattle.registers.specs.Range.{VoiceInRange}
 use Rattle.queue_drain.specs.declared.Drained.{Drained}
 use Rattle.queue_drain.specs.Drain.{Drains, drain}
@@ -199,8 +199,8 @@ module _ {table : List ℕ} {w : Wave} {c₀ : Chip} {core : Core} {gate head co
         rw (a, u)
 
     -- the channels keep what the last word left
-    pub filling-kept : 0 < i → {m : Mixed} → m ≡ mixedOf (core .channels) (core .voice) gate
-        → record { chip = record { core = withKept (m .channels) core; queue = ring stamps registers values head count }; ticks = ticks } ≡ blockOf (length out₀) c₀
+    pub filling-kept : 0 < i → {m : Channels} → m ≡ mixedOf (core .channels) (core .voice) gate .channels
+        → record { chip = record { core = withKept m core; queue = ring stamps registers values head count }; ticks = ticks } ≡ blockOf (length out₀) c₀
     unfolding kept
     filling-kept some {m} e = rw e (sym (ap (λ (c : Chip). record { chip = c; ticks = ticks }) (midway-some i q some refl refl)) ∙ at-end)
 

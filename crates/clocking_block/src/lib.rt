@@ -59,8 +59,7 @@ pub fn render(chip: Chip, out: &mut [u16]) -> Rendered
         i = run.next;
     }
     if i > 0 {
-        let mixed = clocking_word::mix_word(core.channels, core.voice, gate, &table);
-        let channels = mixed.channels;
+        let channels = clocking_word::kept_of_word(core.channels, core.voice, gate, &table);
         core.channels = channels;
     }
     let mut queue = ring;

@@ -22,14 +22,14 @@ pub struct Worded {
 }
 
 // One word by itself. The ring and the levels are lent: a word copies neither.
-pub fn word<'t>(
+pub fn word<'t, 'l>(
     core: Core,
     stamps: &'t [u64; 256],
     registers: &'t [u8; 256],
     values: &'t [u8; 256],
     head: usize,
     count: usize,
-    table: &'t [u16; 32],
+    table: &'l [u16; 32],
 ) -> Worded
     requires { ⌜ CoreInRange core ⌝ }
     requires { ⌜ QueueInRange (ring (now stamps) (now registers) (now values) head count) ⌝ }
@@ -38,7 +38,7 @@ pub fn word<'t>(
     ensures { λ r. ⌜ r ≡ smallOf (wordOf core (ring (now (stamps .entry)) (now (registers .entry)) (now (values .entry)) head count)) ⌝ }
 {
     let end = core.start + core.clocks.cycles;
-    let drained = queue_drain::drain_due(core.voice, stamps, registers, values, head, count, end);
+    let drained = queue_drain::drain_one(core.voice, stamps, registers, values, head, count, end);
     let mut voice = drained.voice;
     let ran = clocking_ticks::run_ticks(
         voice.generators,
@@ -66,7 +66,7 @@ pub fn word<'t>(
 }
 
 // The level is looked up once, from the gate of all ticks.
-pub fn mix_word(channels: Channels, voice: Voice, gate: u32, table: &[u16; 32]) -> Mixed
+fn mix_word(channels: Channels, voice: Voice, gate: u32, table: &[u16; 32]) -> Mixed
     requires { ⌜ EnvelopeInRange (voice .generators .envelope) ⌝ }
     requires { ⌜ now table ≡ levels ⌝ }
     ensures { λ r. ⌜ r ≡ mixedOf channels voice gate ⌝ }
@@ -75,6 +75,18 @@ pub fn mix_word(channels: Channels, voice: Voice, gate: u32, table: &[u16; 32]) 
     let volumes = volumes_of(voice);
     let halves = halves_of(voice.generators);
     mixer::mix(channels, volumes, halves, level, gate, table)
+}
+
+// What the channels keep of it, where the word's value is known.
+pub fn kept_of_word(channels: Channels, voice: Voice, gate: u32, table: &[u16; 32]) -> Channels
+    requires { ⌜ EnvelopeInRange (voice .generators .envelope) ⌝ }
+    requires { ⌜ now table ≡ levels ⌝ }
+    ensures { λ r. ⌜ r ≡ mixedOf channels voice gate .channels ⌝ }
+{
+    let level = voice.generators.envelope.level();
+    let volumes = volumes_of(voice);
+    let halves = halves_of(voice.generators);
+    mixer::kept(channels, volumes, halves, level, gate, table)
 }
 
 // R8 to R10.

@@ -48,3 +48,7 @@ module _ {M : Type 1} (𝓤 : URA M) where
       (fact 𝓤 (_≡_ {A = R × L} (r, put v) (s, put w)))
   by-buffer put {d} {r} {s} {e} {v} {w} =
       via 𝓤 _ (conj-mono 𝓤 (joined (r ≡ d) (v ≡ e)) (joined (s ≡ d) (w ≡ e))) (both (λ p q i. (same (p .0) (q .0) i, put (same (p .1) (q .1) i))))
+
+  -- a lent array, where nothing is answered; `put` as above
+  pub by-array : {W L : Type 0} (put : W → L) {r s : Unit {0}} {e v w : W} → ent 𝓤 (conj 𝓤 (fact 𝓤 (v ≡ e)) (fact 𝓤 (w ≡ e))) (fact 𝓤 (_≡_ {A = Unit {0} × L} (r, put v) (s, put w)))
+  by-array put = both (λ p q i. (tt, put (same p q i)))

@@ -1,6 +1,6 @@
 -- Each by the law of its promise's form (`Laws`). Assumes nothing.
 use Rattle.laws_one_answer.specs.Steps.{Steps}
-use Rattle.laws_one_answer.proofs.Laws.{by-answer}
+use Rattle.laws_one_answer.proofs.Laws.{by-answer, by-array}
 
 pub steps : Steps
 steps =
@@ -13,6 +13,9 @@ steps =
       sync-sample-cycle = λ h x y. by-answer (h .𝓤);
       cpu-cycle = λ h x y. by-answer (h .𝓤);
       pending-write-count = λ h x y. by-answer (h .𝓤);
+      put-stamp = λ h x y. by-array (h .𝓤) (λ w. (w, (tt, (tt, tt))));
+      put-byte = λ h x y. by-array (h .𝓤) (λ w. (w, (tt, (tt, tt))));
+      write-port = λ h x y. by-answer (h .𝓤);
       write-register = λ h x y. by-answer (h .𝓤);
       load-registers = λ h x y. by-answer (h .𝓤);
       write-port-immediate = λ h x y. by-answer (h .𝓤);
@@ -35,4 +38,6 @@ steps =
       c-trigger-envelope = λ h x y. by-answer (h .𝓤);
       c-set-channel-mute = λ h x y. by-answer (h .𝓤);
       c-set-drum-sample-override = λ h x y. by-answer (h .𝓤);
+      c-write-port = λ h x y. by-answer (h .𝓤);
+      step-word = λ h x y. by-answer (h .𝓤);
     }

@@ -57,6 +57,7 @@ use Rattle.three_channels.proofs.Channels.set_mute as channels-set-mute
 use Rattle.three_channels.proofs.Channels.is_muted as channels-is-muted
 use Rattle.three_channels.proofs.Channels.set_drum_override as channels-set-drum-override
 use Rattle.mixer.proofs.mix as channels-mix
+use Rattle.mixer.proofs.kept as channels-kept
 use Rattle.all_registers.proofs.new as voice-new
 use Rattle.all_registers.proofs.reset as voice-reset
 use Rattle.registers.proofs.Voice.apply_register as voice-apply-register
@@ -66,6 +67,7 @@ use Rattle.stored_bytes.proofs.mark
 use Rattle.stored_bytes.proofs.put
 use Rattle.settling.proofs.settings_of as settings-of
 use Rattle.settling.proofs.settled
+use Rattle.settling.proofs.settled_one as settled-one
 use Rattle.settling.proofs.with_settings as with-settings
 use Rattle.all_registers.proofs.load_registers as voice-load-registers
 use Rattle.queue.proofs.Queue.new as queue-new
@@ -74,15 +76,14 @@ use Rattle.queue.proofs.Queue.push as queue-push
 use Rattle.queue_flush.proofs.flush as queue-flush
 use Rattle.queue.proofs.Queue.emptied as queue-emptied
 use Rattle.queue_drain.proofs.drain
-use Rattle.queue_drain.proofs.drain_due as drain-due
+use Rattle.queue_drain.proofs.drain_one as drain-one
 use Rattle.clocking_ticks.proofs.run_ticks as run-ticks
 use Rattle.word_sum.proofs.word as sum-word
 use Rattle.word_sum.proofs.part as sum-part
 use Rattle.clocking_word.proofs.word
-use Rattle.clocking_word.proofs.mix_word as mix-word
+use Rattle.clocking_word.proofs.kept_of_word as kept-of-word
 use Rattle.clocking_word.proofs.volumes_of as volumes-of
 use Rattle.clocking_word.proofs.halves_of as halves-of
-use Rattle.clocking_one.proofs.one_word as one-word
 use Rattle.clocking_run.proofs.run_words as run-words
 use Rattle.clocking_block.proofs.render
 use Rattle.clocks.proofs.clocks_no as clocks-no
@@ -159,6 +160,7 @@ pub record Parts : Type 2 where
   pub channels-is-muted : Settles channels-is-muted.ended (λ M. channels-is-muted.clauses)
   pub channels-set-drum-override : Settles channels-set-drum-override.ended (λ M. channels-set-drum-override.clauses)
   pub channels-mix : Settles channels-mix.ended (λ M. channels-mix.clauses)
+  pub channels-kept : Settles channels-kept.ended (λ M. channels-kept.clauses)
   pub voice-new : Settles voice-new.ended (λ M. voice-new.clauses)
   pub voice-reset : Settles voice-reset.ended (λ M. voice-reset.clauses)
   pub voice-apply-register : Settles voice-apply-register.ended (λ M. voice-apply-register.clauses)
@@ -168,6 +170,7 @@ pub record Parts : Type 2 where
   pub put : Settles put.ended (λ M. put.clauses)
   pub settings-of : Settles settings-of.ended (λ M. settings-of.clauses)
   pub settled : Settles settled.ended (λ M. settled.clauses)
+  pub settled-one : Settles settled-one.ended (λ M. settled-one.clauses)
   pub with-settings : Settles with-settings.ended (λ M. with-settings.clauses)
   pub voice-load-registers : Settles voice-load-registers.ended (λ M. voice-load-registers.clauses)
   pub queue-new : Settles queue-new.ended (λ M. queue-new.clauses)
@@ -176,15 +179,14 @@ pub record Parts : Type 2 where
   pub queue-flush : Settles queue-flush.ended (λ M. queue-flush.clauses)
   pub queue-emptied : Settles queue-emptied.ended (λ M. queue-emptied.clauses)
   pub drain : Settles drain.ended (λ M. drain.clauses)
-  pub drain-due : Settles drain-due.ended (λ M. drain-due.clauses)
+  pub drain-one : Settles drain-one.ended (λ M. drain-one.clauses)
   pub run-ticks : Settles run-ticks.ended (λ M. run-ticks.clauses)
   pub word : Settles word.ended (λ M. word.clauses)
   pub sum-word : Settles sum-word.ended (λ M. sum-word.clauses)
   pub sum-part : Settles sum-part.ended (λ M. sum-part.clauses)
-  pub mix-word : Settles mix-word.ended (λ M. mix-word.clauses)
+  pub kept-of-word : Settles kept-of-word.ended (λ M. kept-of-word.clauses)
   pub volumes-of : Settles volumes-of.ended (λ M. volumes-of.clauses)
   pub halves-of : Settles halves-of.ended (λ M. halves-of.clauses)
-  pub one-word : Settles one-word.ended (λ M. one-word.clauses)
   pub run-words : Settles run-words.ended (λ M. run-words.clauses)
   pub render : Settles render.ended (λ M. render.clauses)
   pub clocks-no : Settles clocks-no.ended (λ M. clocks-no.clauses)

@@ -2,14 +2,14 @@
 use Rattle.c_record.proofs.chip_of as chip-of
 use Rattle.c_record.proofs.record_of as record-of
 use Rattle.c_told.proofs.tell
-use Rattle.c_told.proofs.tell_sample as tell-sample
 use Rattle.c_told.proofs.tell_block as tell-block
 use Rattle.c_record.proofs.drum_of as drum-of
 use Rattle.c_record.proofs.record_drum as record-drum
+use Rattle.c_record.proofs.channel_of as channel-of
+use Rattle.c_record.proofs.record_channel as record-channel
 use Rattle.c_making.proofs.new
 use Rattle.c_making.proofs.with_clocks as with-clocks
 use Rattle.c_calls.proofs.reset
-use Rattle.c_calls.proofs.write_port as write-port
 use Rattle.c_calls.proofs.flush_pending_writes as flush-pending-writes
 use Rattle.c_words.proofs.compute_next_sample as compute-next-sample
 use Rattle.c_words.proofs.block
@@ -19,14 +19,14 @@ pub record Held : Type 2 where
   pub chip-of : Settles chip-of.ended (λ M. chip-of.clauses)
   pub record-of : Settles record-of.ended (λ M. record-of.clauses)
   pub tell : Settles tell.ended (λ M. tell.clauses)
-  pub tell-sample : Settles tell-sample.ended (λ M. tell-sample.clauses)
   pub tell-block : Settles tell-block.ended (λ M. tell-block.clauses)
   pub drum-of : Settles drum-of.ended (λ M. drum-of.clauses)
   pub record-drum : Settles record-drum.ended (λ M. record-drum.clauses)
+  pub channel-of : Settles channel-of.ended (λ M. channel-of.clauses)
+  pub record-channel : Settles record-channel.ended (λ M. record-channel.clauses)
   pub new : Settles new.ended (λ M. new.clauses)
   pub with-clocks : Settles with-clocks.ended (λ M. with-clocks.clauses)
   pub reset : Settles reset.ended (λ M. reset.clauses)
-  pub write-port : Settles write-port.ended (λ M. write-port.clauses)
   pub flush-pending-writes : Settles flush-pending-writes.ended (λ M. flush-pending-writes.clauses)
   pub compute-next-sample : Settles compute-next-sample.ended (λ M. compute-next-sample.clauses)
   pub block : Settles block.ended (λ M. block.clauses)

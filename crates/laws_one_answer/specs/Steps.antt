@@ -1,4 +1,4 @@
--- Every call of `steps_*`, `c_steps`, `lent_chip` and `lent_record` is settled, and the two tests by parts (`Settled`). Assumes nothing.
+-- Every call of `steps_*`, `c_steps`, `queue_slot`, `lent_chip` and `lent_record` is settled, and the two tests by parts (`Settled`). Assumes nothing.
 use Rattle.queue.proofs.ring_in as ring-in
 use Rattle.chip.proofs.parts_in as parts-in
 use Rattle.lent_chip.proofs.in_range as chip-in-range
@@ -7,6 +7,9 @@ use Rattle.steps_cycles.proofs.set_cpu_cycle as set-cpu-cycle
 use Rattle.steps_cycles.proofs.sync_sample_cycle as sync-sample-cycle
 use Rattle.steps_cycles.proofs.cpu_cycle as cpu-cycle
 use Rattle.steps_cycles.proofs.pending_write_count as pending-write-count
+use Rattle.queue_slot.proofs.put_stamp as put-stamp
+use Rattle.queue_slot.proofs.put_byte as put-byte
+use Rattle.steps_ports.proofs.write_port as write-port
 use Rattle.steps_voice.proofs.write_register as write-register
 use Rattle.steps_voice.proofs.load_registers as load-registers
 use Rattle.steps_voice.proofs.write_port_immediate as write-port-immediate
@@ -29,6 +32,8 @@ use Rattle.c_steps.proofs.set_timer_irq_state as c-set-timer-irq-state
 use Rattle.c_steps.proofs.trigger_envelope as c-trigger-envelope
 use Rattle.c_steps.proofs.set_channel_mute as c-set-channel-mute
 use Rattle.c_steps.proofs.set_drum_sample_override as c-set-drum-sample-override
+use Rattle.c_steps.proofs.write_port as c-write-port
+use Rattle.steps_words.proofs.compute_next_sample as step-word
 use Rattle.laws_one_answer.specs.Settled.{Settles}
 
 pub record Steps : Type 2 where
@@ -40,6 +45,9 @@ pub record Steps : Type 2 where
   pub sync-sample-cycle : Settles sync-sample-cycle.ended (λ M. sync-sample-cycle.clauses)
   pub cpu-cycle : Settles cpu-cycle.ended (λ M. cpu-cycle.clauses)
   pub pending-write-count : Settles pending-write-count.ended (λ M. pending-write-count.clauses)
+  pub put-stamp : Settles put-stamp.ended (λ M. put-stamp.clauses)
+  pub put-byte : Settles put-byte.ended (λ M. put-byte.clauses)
+  pub write-port : Settles write-port.ended (λ M. write-port.clauses)
   pub write-register : Settles write-register.ended (λ M. write-register.clauses)
   pub load-registers : Settles load-registers.ended (λ M. load-registers.clauses)
   pub write-port-immediate : Settles write-port-immediate.ended (λ M. write-port-immediate.clauses)
@@ -62,3 +70,5 @@ pub record Steps : Type 2 where
   pub c-trigger-envelope : Settles c-trigger-envelope.ended (λ M. c-trigger-envelope.clauses)
   pub c-set-channel-mute : Settles c-set-channel-mute.ended (λ M. c-set-channel-mute.clauses)
   pub c-set-drum-sample-override : Settles c-set-drum-sample-override.ended (λ M. c-set-drum-sample-override.clauses)
+  pub c-write-port : Settles c-write-port.ended (λ M. c-write-port.clauses)
+  pub step-word : Settles step-word.ended (λ M. step-word.clauses)

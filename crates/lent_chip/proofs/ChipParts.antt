@@ -11,6 +11,7 @@ use denote.Struct.Declared.{Declared, fields}
 use denote.Struct.Laws as LL
 use Rattle.laws.proofs.Flat.{Flat, row, vals, val-of, bytesf, structf, u8f, u32f, u64f, usizef, boolf}
 use Rattle.lent_walks.proofs.Parts.{Part, IsOne, whole-val, map-same, offset, with-path}
+use Rattle.lent_walks.proofs.Poke.{u64sf}
 use Rattle.lent_walks.proofs.Places.{Place, here, inside, part, struct, f32f}
 use Rattle.lent_chip.proofs.ChipFields as f
 use Rattle.channel.proofs.Channel as channel′
@@ -180,7 +181,25 @@ start = record {
   lies = λ t q b o c. sub t 6 refl (sub t 0 refl (whole t));
 }
 
--- the ring's registers, its place and its count
+-- the ring's arrays, its place and its count
+abbrev pub with-stamps : List ℕ → Chip → Chip
+with-stamps y c = record { core = c .core; queue = record { stamps = y; registers = c .queue .registers; values = c .queue .values; head = c .queue .head; count = c .queue .count } }
+
+abbrev pub stamps : Part chip
+stamps = record {
+  X = u64sf 256;
+  path = field 1 ∷ field 0 ∷ [];
+  at = λ o. (o + offset chip-laws.mir 1) + offset queue-laws.mir 0;
+  of = λ c. map (λ v. v) (c .queue .stamps);
+  put = with-stamps;
+  with = λ u c. with-path (1 ∷ 0 ∷ []) (whole-val chip c) u;
+  with-put = λ y c. ap (λ (l : List ℕ). with-path (1 ∷ 0 ∷ []) (whole-val chip c) (val-of (u64sf 256) l)) (sym (map-same y));
+  of-is = λ c is. queue-are c is .0;
+  put-is = λ y c y-is is. let k = queue-are c is in queue-is c (with-stamps y c .queue) is (subst (λ (l : List ℕ). Is (row (u64sf 256)) l (vals (u64sf 256) l)) (sym (map-same y)) y-is, (k .1 .0, (k .1 .1 .0, (k .1 .1 .1 .0, (k .1 .1 .1 .1 .0, tt)))));
+  found = λ t b o. fld t refl (fld t refl (stop t));
+  lies = λ t q b o c. sub t 0 refl (sub t 1 refl (whole t));
+}
+
 abbrev pub with-registers : List ℕ → Chip → Chip
 with-registers y c = record { core = c .core; queue = record { stamps = c .queue .stamps; registers = y; values = c .queue .values; head = c .queue .head; count = c .queue .count } }
 
@@ -197,6 +216,24 @@ registers = record {
   put-is = λ y c y-is is. let k = queue-are c is in queue-is c (with-registers y c .queue) is (k .0, (subst (λ (l : List ℕ). Is (row (bytesf 256)) l (vals (bytesf 256) l)) (sym (map-same y)) y-is, (k .1 .1 .0, (k .1 .1 .1 .0, (k .1 .1 .1 .1 .0, tt)))));
   found = λ t b o. fld t refl (fld t refl (stop t));
   lies = λ t q b o c. sub t 1 refl (sub t 1 refl (whole t));
+}
+
+abbrev pub with-values : List ℕ → Chip → Chip
+with-values y c = record { core = c .core; queue = record { stamps = c .queue .stamps; registers = c .queue .registers; values = y; head = c .queue .head; count = c .queue .count } }
+
+abbrev pub values : Part chip
+values = record {
+  X = bytesf 256;
+  path = field 1 ∷ field 2 ∷ [];
+  at = λ o. (o + offset chip-laws.mir 1) + offset queue-laws.mir 2;
+  of = λ c. map (λ v. v) (c .queue .values);
+  put = with-values;
+  with = λ u c. with-path (1 ∷ 2 ∷ []) (whole-val chip c) u;
+  with-put = λ y c. ap (λ (l : List ℕ). with-path (1 ∷ 2 ∷ []) (whole-val chip c) (val-of (bytesf 256) l)) (sym (map-same y));
+  of-is = λ c is. queue-are c is .1 .1 .0;
+  put-is = λ y c y-is is. let k = queue-are c is in queue-is c (with-values y c .queue) is (k .0, (k .1 .0, (subst (λ (l : List ℕ). Is (row (bytesf 256)) l (vals (bytesf 256) l)) (sym (map-same y)) y-is, (k .1 .1 .1 .0, (k .1 .1 .1 .1 .0, tt)))));
+  found = λ t b o. fld t refl (fld t refl (stop t));
+  lies = λ t q b o c. sub t 2 refl (sub t 1 refl (whole t));
 }
 
 abbrev pub with-head : ℕ → Chip → Chip

@@ -1,2 +1,3 @@
 pub mod ChipFields
 pub mod ChipParts
+pub mod Lengths

@@ -1,2 +1,3 @@
 pub mod RecordFields
 pub mod RecordParts
+pub mod Lengths

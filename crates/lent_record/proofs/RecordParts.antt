@@ -11,6 +11,7 @@ use denote.Struct.Declared.{Declared, fields}
 use denote.Struct.Laws as LL
 use Rattle.laws.proofs.Flat.{Flat, row, vals, val-of, bytesf, structf, u8f, u32f, u64f, usizef, boolf}
 use Rattle.lent_walks.proofs.Parts.{Part, IsOne, whole-val, map-same, offset, with-path}
+use Rattle.lent_walks.proofs.Poke.{u64sf}
 use Rattle.lent_walks.proofs.Places.{Place, here, inside, part, struct, f32f}
 use Rattle.lent_chip.proofs.ChipFields as chip
 use Rattle.lent_record.proofs.RecordFields as f
@@ -227,7 +228,25 @@ start = record {
   lies = λ t q b o x. sub t 8 refl (sub t 0 refl (whole t));
 }
 
--- the ring's registers, its place and its count
+-- the ring's arrays, its place and its count
+abbrev pub with-stamps : List ℕ → Record → Record
+with-stamps y x = record { core = x .core; queue = record { stamps = y; registers = x .queue .registers; values = x .queue .values; head = x .queue .head; count = x .queue .count } }
+
+abbrev pub stamps : Part lent
+stamps = record {
+  X = u64sf 256;
+  path = field 1 ∷ field 0 ∷ [];
+  at = λ o. (o + offset record-laws.mir 1) + offset queue-laws.mir 0;
+  of = λ x. map (λ v. v) (x .queue .stamps);
+  put = with-stamps;
+  with = λ u x. with-path (1 ∷ 0 ∷ []) (whole-val lent x) u;
+  with-put = λ y x. ap (λ (l : List ℕ). with-path (1 ∷ 0 ∷ []) (whole-val lent x) (val-of (u64sf 256) l)) (sym (map-same y));
+  of-is = λ x is. queue-are x is .0;
+  put-is = λ y x y-is is. let k = queue-are x is in queue-is x (with-stamps y x .queue) is (subst (λ (l : List ℕ). Is (row (u64sf 256)) l (vals (u64sf 256) l)) (sym (map-same y)) y-is, (k .1 .0, (k .1 .1 .0, (k .1 .1 .1 .0, (k .1 .1 .1 .1 .0, tt)))));
+  found = λ t b o. fld t refl (fld t refl (stop t));
+  lies = λ t q b o x. sub t 0 refl (sub t 1 refl (whole t));
+}
+
 abbrev pub with-registers : List ℕ → Record → Record
 with-registers y x = record { core = x .core; queue = record { stamps = x .queue .stamps; registers = y; values = x .queue .values; head = x .queue .head; count = x .queue .count } }
 
@@ -244,6 +263,24 @@ registers = record {
   put-is = λ y x y-is is. let k = queue-are x is in queue-is x (with-registers y x .queue) is (k .0, (subst (λ (l : List ℕ). Is (row (bytesf 256)) l (vals (bytesf 256) l)) (sym (map-same y)) y-is, (k .1 .1 .0, (k .1 .1 .1 .0, (k .1 .1 .1 .1 .0, tt)))));
   found = λ t b o. fld t refl (fld t refl (stop t));
   lies = λ t q b o x. sub t 1 refl (sub t 1 refl (whole t));
+}
+
+abbrev pub with-values : List ℕ → Record → Record
+with-values y x = record { core = x .core; queue = record { stamps = x .queue .stamps; registers = x .queue .registers; values = y; head = x .queue .head; count = x .queue .count } }
+
+abbrev pub values : Part lent
+values = record {
+  X = bytesf 256;
+  path = field 1 ∷ field 2 ∷ [];
+  at = λ o. (o + offset record-laws.mir 1) + offset queue-laws.mir 2;
+  of = λ x. map (λ v. v) (x .queue .values);
+  put = with-values;
+  with = λ u x. with-path (1 ∷ 2 ∷ []) (whole-val lent x) u;
+  with-put = λ y x. ap (λ (l : List ℕ). with-path (1 ∷ 2 ∷ []) (whole-val lent x) (val-of (bytesf 256) l)) (sym (map-same y));
+  of-is = λ x is. queue-are x is .1 .1 .0;
+  put-is = λ y x y-is is. let k = queue-are x is in queue-is x (with-values y x .queue) is (k .0, (k .1 .0, (subst (λ (l : List ℕ). Is (row (bytesf 256)) l (vals (bytesf 256) l)) (sym (map-same y)) y-is, (k .1 .1 .1 .0, (k .1 .1 .1 .1 .0, tt)))));
+  found = λ t b o. fld t refl (fld t refl (stop t));
+  lies = λ t q b o x. sub t 2 refl (sub t 1 refl (whole t));
 }
 
 abbrev pub with-head : ℕ → Record → Record
@@ -286,32 +323,60 @@ count = record {
 abbrev pub stored : Part lent
 stored = part (bytesf 14) (inside (inside (inside (here lent) f.core) f.voice) chip.registers)
 
-abbrev channel-a : Place lent (struct channel′.the-type channel-laws.the-laws)
-channel-a = inside (inside (here lent) f.core) f.a
+abbrev in-a : Place lent (struct channel′.the-type channel-laws.the-laws)
+in-a = inside (inside (here lent) f.core) f.a
 
-abbrev channel-b : Place lent (struct channel′.the-type channel-laws.the-laws)
-channel-b = inside (inside (here lent) f.core) f.b
+abbrev in-b : Place lent (struct channel′.the-type channel-laws.the-laws)
+in-b = inside (inside (here lent) f.core) f.b
 
-abbrev channel-c : Place lent (struct channel′.the-type channel-laws.the-laws)
-channel-c = inside (inside (here lent) f.core) f.c
+abbrev in-c : Place lent (struct channel′.the-type channel-laws.the-laws)
+in-c = inside (inside (here lent) f.core) f.c
+
+abbrev pub channelf : Flat
+channelf = structf channel′.the-type channel-laws.the-field-laws channel-laws.the-field-plain
+
+-- a whole channel
+abbrev channel-at : Place lent (struct channel′.the-type channel-laws.the-laws) → Part lent
+channel-at P = record {
+  X = channelf;
+  path = P .path [];
+  at = P .at;
+  of = P .of;
+  put = P .put;
+  with = P .with;
+  with-put = P .with-put;
+  of-is = λ x is. LL.owes channel′.the-type channel-laws.the-laws (P .of x) (P .ok x is);
+  put-is = λ y x y-is is. P .put-ok y x (LL.owed channel′.the-type channel-laws.the-laws y _ y-is) is;
+  found = λ t b o. P .found t b o (stop t);
+  lies = P .lies;
+}
+
+abbrev pub channel-a : Part lent
+channel-a = channel-at in-a
+
+abbrev pub channel-b : Part lent
+channel-b = channel-at in-b
+
+abbrev pub channel-c : Part lent
+channel-c = channel-at in-c
 
 abbrev pub muted-a : Part lent
-muted-a = part boolf (inside channel-a f.muted)
+muted-a = part boolf (inside in-a f.muted)
 
 abbrev pub muted-b : Part lent
-muted-b = part boolf (inside channel-b f.muted)
+muted-b = part boolf (inside in-b f.muted)
 
 abbrev pub muted-c : Part lent
-muted-c = part boolf (inside channel-c f.muted)
+muted-c = part boolf (inside in-c f.muted)
 
 abbrev pub output-a : Part lent
-output-a = part f32f (inside channel-a f.output)
+output-a = part f32f (inside in-a f.output)
 
 abbrev pub output-b : Part lent
-output-b = part f32f (inside channel-b f.output)
+output-b = part f32f (inside in-b f.output)
 
 abbrev pub output-c : Part lent
-output-c = part f32f (inside channel-c f.output)
+output-c = part f32f (inside in-c f.output)
 
 -- ---- deeper parts that a call changes: the generators, the IRQ flag, the envelope
 abbrev in-voice : Place lent (struct voice′.the-type voice-laws.the-laws)

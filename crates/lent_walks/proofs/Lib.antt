@@ -4,3 +4,8 @@ pub mod Places
 pub mod Stored
 pub mod Read
 pub mod Take
+pub mod Poke
+pub mod Poked
+pub mod Shown
+pub mod Ring
+pub mod Lengths

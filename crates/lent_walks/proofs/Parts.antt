@@ -170,6 +170,13 @@ pub record FieldIs (τs : Tys) (vs : Vals) (k : ℕ) (X : Flat) (v : Val) : Type
   pub there : fieldAt zero τs k ≡ some (X .τ, offset)
   pub is : getV vs k ≡ v
 
+-- the types of a struct's fields, and its fields' machine values
+abbrev pub struct-tys : Declared → Tys
+struct-tys T = toTys (mirs (declared.fields T))
+
+abbrev pub struct-vals : (T : Declared) → LL.Laws T → T .D → Vals
+struct-vals T L d = ofList (flat (declared.fields T) (valss (declared.fields T) (LL.spells (T .parts) L) (T .to d)))
+
 -- the struct that a step gives: the parts to store, and the answer
 pub record Reply {K : Lent} (Ss : List (Part K)) (Q : Flat) : Type 2 where
   pub name : Sym
@@ -186,7 +193,7 @@ module _ {K : Lent} {Ss : List (Part K)} {Q : Flat} (P : Reply Ss Q) where
   reply-row = declared.row reply
 
   abbrev pub reply-tys : Tys
-  reply-tys = toTys (mirs (declared.fields reply))
+  reply-tys = struct-tys reply
 
   abbrev pub reply-mir : Ty
   reply-mir = layout (declared.shape reply)
@@ -195,7 +202,7 @@ module _ {K : Lent} {Ss : List (Part K)} {Q : Flat} (P : Reply Ss Q) where
   reply-laws = reply-fields-laws (kinds Ss) Q
 
   abbrev pub reply-vals : P .D → Vals
-  reply-vals d = ofList (flat (declared.fields reply) (valss (declared.fields reply) (LL.spells (reply .parts) reply-laws) (reply .to d)))
+  reply-vals d = struct-vals reply reply-laws d
 
   -- where its fields from the k-th on lie, and the answer
   abbrev pub FieldsFrom : ℕ → (Xs : List Flat) → (P .D → Arg Xs) → Type 0
@@ -235,6 +242,14 @@ module _ {M : Type 1} (𝓤 : URA M) {K : Lent} (n : ℕ) (κs : Lfts n) (h : K 
     goes-before Ps bs j = qed W (both Ps bs (j ∷ Γ)) {P = ⋆ 𝓤 H A (j ∷ both Ps bs Γ)} (move ! (2 ∷ []) $ done !)
 
 -- ---- the steps
+-- a field of a struct of plain data, in its local
+module _ {M : Type 1} {𝓤 : URA M} {H : Heap 𝓤} {A : Atoms 𝓤} {C : Type 0} {W : Given 𝓤 H A} where
+  pub look-struct : C → (T : Declared) (L : LL.Laws T) (d : T .D) (l : ℕ) {Γ : List (Item 𝓤)} (m k : ℕ) (X : Flat) (v : Val) (f : FieldIs (struct-tys T) (struct-vals T L d) k X v)
+      → ‵ (fat fullShare (layout (declared.shape T)) l 0 (LL.val T L d)) ≡ nth 𝓤 H A m Γ → Reads C W Γ (X .τ) l (0 + f .offset) v
+  look-struct t T L d l {Γ} m k X v f e =
+      subst (λ (u : Val). Reads C W Γ (X .τ) l (0 + f .offset) u) (f .is)
+      (look-in t m (subst (λ (j : Item 𝓤). Within C W j fullShare (X .τ) l (0 + f .offset) (getV (struct-vals T L d) k) (λ u. ‵ (fat fullShare (layout (declared.shape T)) l 0 (vstruct (setV (struct-vals T L d) k u))))) e (sub t k (f .there) (whole t))))
+
 module _ {M : Type 1} {𝓤 : URA M} {H : Heap 𝓤} {A : Atoms 𝓤} {C : Type 0} {W : Given 𝓤 H A} {K : Lent} where
   pub take-all : C → (ρ σ : Ty) (l₀ l₁ b o : ℕ) (q : Share) (h : K .T .D) → IsOne K h → (Ps : List (Part K)) (bs : Blocks (kinds Ps)) {Γ : List (Item 𝓤)} (E rest : Env 𝓤 H) (i : ℕ) → drops i ((ρ, l₀) ∷ (σ, l₁) ∷ E) ≡ envs 𝓤 H (kinds Ps) bs rest
       → {Cs : Calls 𝓤 H} {Λ : Loops 𝓤 H} {z : Post 𝓤 H} {code : Body}
@@ -260,12 +275,21 @@ module _ {M : Type 1} {𝓤 : URA M} {H : Heap 𝓤} {A : Atoms 𝓤} {C : Type 
       → Opds C W (k ∷ ‵ (cells 0 tt (kinds Ps) bs (held Ps h)) ∷ ‵ (cells n κs Xs xs x) ∷ Γ) E (copies-then i (kinds Ps) (copies j Xs)) (values 0 tt (kinds Ps ++ Xs) (joined Ps Xs h (cross n κs 0 tt Xs x)))
   opds-parts t n κs h Xs xs x E last j e′ Ps bs {k} {Γ} rest i e = opds-via t (goes-behind 𝓤 n κs h Xs xs x Γ H A W Ps bs k) (goes-before 𝓤 n κs h Xs xs x Γ H A W Ps bs k) (opds-first t n κs h Xs xs x E last j e′ Ps bs {Γ = k ∷ Γ} rest i e)
 
+  -- a field of such a struct, in its local, is stored where a part lies
+  pub store-one : C → (T : Declared) (L : LL.Laws T) (d : T .D) (l : ℕ) (E : Env 𝓤 H) (ρ σ : Ty) (l₀ l₁ b o i : ℕ) → spotOf 𝓤 H ((ρ, l₀) ∷ (σ, l₁) ∷ E) i ≡ (layout (declared.shape T), l, 0)
+      → (S : Part K) (k : ℕ) (y : S .X .R .Denot) → FieldIs (struct-tys T) (struct-vals T L d) k (S .X) (val-of (S .X) y) → Is (row (S .X)) y (vals (S .X) y) → (h : K .T .D) {Γ : List (Item 𝓤)} {Cs : Calls 𝓤 H} {Λ : Loops 𝓤 H} {z : Post 𝓤 H} {code : Body}
+      → Seq C W (‵ (fat fullShare (lent-mir K) b o (whole-val K (S .put y h))) ∷ ‵ (fat fullShare (layout (declared.shape T)) l 0 (LL.val T L d)) ∷ ‵ (fat fullShare σ l₁ 0 (vptr b o)) ∷ Γ) (runs Cs Λ ((ρ, l₀) ∷ (σ, l₁) ∷ E) code z)
+      → Seq C W (‵ (fat fullShare (lent-mir K) b o (whole-val K h)) ∷ ‵ (fat fullShare (layout (declared.shape T)) l 0 (LL.val T L d)) ∷ ‵ (fat fullShare σ l₁ 0 (vptr b o)) ∷ Γ)
+      (runs Cs Λ ((ρ, l₀) ∷ (σ, l₁) ∷ E) (seq (assign (place 1 (deref (lent-mir K) ∷ S .path)) (rvOpd (copy (place i (field k ∷ []))))) code) z)
+  store-one t T L d l E ρ σ l₀ l₁ b o i at-l S k y f is h s =
+      assigns t (of-opd t (load t (from-at t at-l (fld t (f .there) (stop t))) (look-struct t T L d l 1 k (S .X) (val-of (S .X) y) f refl))) (from t (hop t (look t 2 refl) (S .found t b o)))
+      (store-in t 0 (S .lies t fullShare b o h) (S .X .lawful 𝓤 H A W .typed (S .X .into y) _ is .0)) $
+      rewrite t 0 (λ (u : Val). ‵ (fat fullShare (lent-mir K) b o u)) (S .with-put y h) refl $ s
+
   -- a field of the reply, in its local
   pub look-field : C → {Ss : List (Part K)} {Q : Flat} (P : Reply Ss Q) (d : P .D) (l : ℕ) {Γ : List (Item 𝓤)} (m k : ℕ) (X : Flat) (v : Val) (f : FieldIs (reply-tys P) (reply-vals P d) k X v)
       → ‵ (fat fullShare (reply-mir P) l 0 (LL.val (reply P) (reply-laws P) d)) ≡ nth 𝓤 H A m Γ → Reads C W Γ (X .τ) l (0 + f .offset) v
-  look-field t P d l {Γ} m k X v f e =
-      subst (λ (u : Val). Reads C W Γ (X .τ) l (0 + f .offset) u) (f .is)
-      (look-in t m (subst (λ (j : Item 𝓤). Within C W j fullShare (X .τ) l (0 + f .offset) (getV (reply-vals P d) k) (λ u. ‵ (fat fullShare (reply-mir P) l 0 (vstruct (setV (reply-vals P d) k u))))) e (sub t k (f .there) (whole t))))
+  look-field t P d l m k X v f e = look-struct t (reply P) (reply-laws P) d l m k X v f e
 
   -- the fields from the k-th on are stored where the parts Ps lie
   pub store-all : C → {Ss : List (Part K)} {Q : Flat} (P : Reply Ss Q) (d : P .D) (l : ℕ) (E : Env 𝓤 H) (ρ σ : Ty) (l₀ l₁ b o i : ℕ) → spotOf 𝓤 H ((ρ, l₀) ∷ (σ, l₁) ∷ E) i ≡ (reply-mir P, l, 0)
@@ -274,7 +298,5 @@ module _ {M : Type 1} {𝓤 : URA M} {H : Heap 𝓤} {A : Atoms 𝓤} {C : Type 
       → Seq C W (‵ (fat fullShare (lent-mir K) b o (whole-val K h)) ∷ ‵ (fat fullShare (reply-mir P) l 0 (LL.val (reply P) (reply-laws P) d)) ∷ ‵ (fat fullShare σ l₁ 0 (vptr b o)) ∷ Γ) (runs Cs Λ ((ρ, l₀) ∷ (σ, l₁) ∷ E) (stores i k Ps code) z)
   store-all t P d l E ρ σ l₀ l₁ b o i at-l [] k ys fs are h s = s
   store-all t P d l E ρ σ l₀ l₁ b o i at-l (S ∷ Ps) k ys fs are h s =
-      assigns t (of-opd t (load t (from-at t at-l (fld t (fs .0 d .there) (stop t))) (look-field t P d l 1 k (S .X) (val-of (S .X) (ys d .0)) (fs .0 d) refl))) (from t (hop t (look t 2 refl) (S .found t b o)))
-      (store-in t 0 (S .lies t fullShare b o h) (S .X .lawful 𝓤 H A W .typed (S .X .into (ys d .0)) _ (are .0) .0)) $
-      rewrite t 0 (λ (u : Val). ‵ (fat fullShare (lent-mir K) b o u)) (S .with-put (ys d .0) h) refl $
-      store-all t P d l E ρ σ l₀ l₁ b o i at-l Ps (suc k) (λ e. ys e .1) (fs .1) (are .1) (S .put (ys d .0) h) s
+      store-one t (reply P) (reply-laws P) d l E ρ σ l₀ l₁ b o i at-l S k (ys d .0) (fs .0 d) (are .0) h
+      (store-all t P d l E ρ σ l₀ l₁ b o i at-l Ps (suc k) (λ e. ys e .1) (fs .1) (are .1) (S .put (ys d .0) h) s)

@@ -39,3 +39,31 @@ pub fn mix(
     let channels = Channels { a, b, c };
     Mixed { word, channels }
 }
+
+// What the channels keep of a word whose value is known: a block's last, by its gate.
+pub fn kept(
+    channels: Channels,
+    volumes: [u8; 3],
+    halves: [bool; 3],
+    envelope: u8,
+    last: u32,
+    table: &[u16; 32],
+) -> Channels
+    requires { ⌜ envelope < 32 ⌝ }
+    requires { ⌜ now table ≡ levels ⌝ }
+    ensures { λ r. ⌜ r ≡ mixed channels volumes halves envelope last .channels ⌝ }
+{
+    let a = channels
+        .a
+        .sound(volumes[0], halves[0], envelope, last, table);
+    let b = channels
+        .b
+        .sound(volumes[1], halves[1], envelope, last >> 5, table);
+    let c = channels
+        .c
+        .sound(volumes[2], halves[2], envelope, last >> 10, table);
+    let a = a.channel;
+    let b = b.channel;
+    let c = c.channel;
+    Channels { a, b, c }
+}

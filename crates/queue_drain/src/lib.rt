@@ -154,8 +154,32 @@ fn one_by_one(
     }
 }
 
-// The same, each write by itself: a word that stands alone is drained by this, so that `drain` has one caller in a program.
-pub fn drain_due(
+// The same for a word by itself, which is in a hurry where nothing is due.
+pub fn drain_one(
+    voice: Voice,
+    stamps: &[u64; 256],
+    registers: &[u8; 256],
+    values: &[u8; 256],
+    head: usize,
+    count: usize,
+    end: u64,
+) -> Drained
+    requires { ⌜ QueueInRange (ring (now stamps) (now registers) (now values) head count) ⌝ }
+    ensures { λ r. ⌜ Drains end voice (ring (now (stamps .entry)) (now (registers .entry)) (now (values .entry)) head count) r ⌝ }
+{
+    if count == 0 {
+        return Drained { voice, head, count };
+    }
+    if stamps[head] > end {
+        return Drained { voice, head, count };
+    }
+    // a copy, as above
+    let held = voice;
+    drain_due(held, stamps, registers, values, head, count, end)
+}
+
+// Each write by itself.
+fn drain_due(
     voice: Voice,
     stamps: &[u64; 256],
     registers: &[u8; 256],

@@ -1,7 +1,7 @@
 // What many writes set, set once after the last. 01, "Registers and ports".
 ghost use mathlib.Core.Bool.{cond};
 ghost use mathlib.Core.Path.{_≡_};
-ghost use Prim.Native.Nat.{_+_, _*_, _^_};
+ghost use Prim.Native.Nat.{_+_, _*_, _^_, _<_};
 ghost use Rattle.stored_bytes.specs.Marks.{unwritten};
 ghost use Rattle.settling.specs.Settling.{settingsOf, pitchAfter, gatesAfter, envelopePeriodAfter, shapeAfter, settledOf, generatorsWith, withSettings};
 use envelope::Envelope;
@@ -75,6 +75,52 @@ pub fn settled(bytes: [u8; 14], marks: u32, before: Settings) -> Settings
         noise,
         envelope,
         gates,
+    }
+}
+
+// One register alone sets what it sets, from bytes that have its own.
+pub fn settled_one(bytes: [u8; 14], register: u8, before: Settings) -> Settings
+    requires { ⌜ register < 14 ⌝ }
+    ensures { λ r. ⌜ r ≡ settledOf bytes (2 ^ register) before ⌝ }
+{
+    let mut after = before;
+    match register {
+        0 | 1 => {
+            let period = registers::joined(bytes[0], bytes[1]);
+            after.a.period = period;
+            after
+        }
+        2 | 3 => {
+            let period = registers::joined(bytes[2], bytes[3]);
+            after.b.period = period;
+            after
+        }
+        4 | 5 => {
+            let period = registers::joined(bytes[4], bytes[5]);
+            after.c.period = period;
+            after
+        }
+        6 => {
+            let noise = bytes[6];
+            after.noise = noise;
+            after
+        }
+        7 => {
+            let gates = Gates::from_register(bytes[7]);
+            after.gates = gates;
+            after
+        }
+        11 | 12 => {
+            let period = registers::joined(bytes[11], bytes[12]);
+            after.envelope.period = period;
+            after
+        }
+        13 => {
+            let envelope = before.envelope.set_shape(bytes[13]);
+            after.envelope = envelope;
+            after
+        }
+        _ => after,
     }
 }
 

@@ -27,11 +27,32 @@ pub fn write_register(ok: bool, voice: Voice, register: u8, value: u8) -> Voiced
             no: refusals::OUT_OF_RANGE,
         };
     }
-    let after = voice.apply_register(register, value);
+    let after = applied(voice, register, value);
     Voiced {
         voice: after,
         no: refusals::ACCEPTED,
     }
+}
+
+// 01: "mark a pending flip if the period is now at most 1 and the IRQ flag is on". Where it is off one register's own settings are all there is
+// to set, and the rest of the voice stays where it is. `write_register` alone calls this: with a second caller it would not be inlined.
+fn applied(voice: Voice, register: u8, value: u8) -> Voice
+    ensures { λ r. ⌜ r ≡ applyRegister register value voice ⌝ }
+{
+    if voice.irq {
+        // a copy: what is lent to a call lies in memory, and the voice need not
+        let held = voice;
+        return held.apply_register(register, value);
+    }
+    if register >= registers::REGISTERS {
+        return voice;
+    }
+    let byte = registers::masked_byte(register, value);
+    let held = voice.registers;
+    let bytes = stored_bytes::put(held, register, byte);
+    let before = settling::settings_of(voice.generators, voice.gates);
+    let settings = settling::settled_one(bytes, register, before);
+    settling::with_settings(bytes, settings, voice)
 }
 
 pub fn load_registers(ok: bool, voice: Voice, bytes: [u8; 16]) -> Voiced

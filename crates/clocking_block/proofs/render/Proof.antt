@@ -61,17 +61,17 @@ loop-again c =
     let inv = c .before .before .before .before .before .before .before .before .before .before .before .before .before .before .before .before .before .before .before .loop .inv in
     filling-on inv (c .before .before .before .before .before .before .before .before .before .before .before .before .drain .ensures) (c .before .before .before .before .before .before .before .next-due .ensures) (c .before .before .before .before .run-words .ensures) (c .before .before .before .before .before .before .before .before .before .before .wave-after .ensures)
 
-mix-word-requires : tie.Need-mix-word-requires Inv-loop μ-loop
-mix-word-requires c κs = let inv = c .before .before .before .loop .inv in (inv .ok .voice .generators .envelope, inv .table)
+kept-of-word-requires : tie.Need-kept-of-word-requires Inv-loop μ-loop
+kept-of-word-requires c κs = let inv = c .before .before .before .loop .inv in (inv .ok .voice .generators .envelope, inv .table)
 
 same-length : tie.Need-same-length Inv-loop μ-loop
-same-length c = c .before .before .before .before .before .loop .inv .long
+same-length c = c .before .before .before .before .loop .inv .long
 
 returns : tie.Need-returns Inv-loop μ-loop
 returns c =
-    let inv = c .before .before .before .before .before .loop .inv in
-    let full = c .before .before .before .before .loop-test .left in
-    (filling-kept inv full (c .before .before .before .if1 .taken) (c .before .mix-word .ensures), filled inv full)
+    let inv = c .before .before .before .before .loop .inv in
+    let full = c .before .before .before .loop-test .left in
+    (filling-kept inv full (c .before .before .if1 .taken) (c .kept-of-word .ensures), filled inv full)
 
 same-length-2 : tie.Need-same-length-2 Inv-loop μ-loop
 same-length-2 c = c .before .before .loop .inv .long
@@ -96,7 +96,7 @@ render-spec =
     add-ticks
     loop-less
     loop-again
-    mix-word-requires
+    kept-of-word-requires
     same-length
     returns
     same-length-2

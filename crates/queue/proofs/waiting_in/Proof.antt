@@ -17,8 +17,8 @@ loop-holds c = search testing-start
 add-at : tie.Need-add-at Inv-loop μ-loop
 add-at c = omega arith
 
-array-read-all : tie.Need-array-read-all Inv-loop μ-loop
-array-read-all c = omega arith
+array-read-held : tie.Need-array-read-held Inv-loop μ-loop
+array-read-held c = omega arith
 
 add-i : tie.Need-add-i Inv-loop μ-loop
 add-i c = omega arith
@@ -33,4 +33,4 @@ returns : tie.Need-returns Inv-loop μ-loop
 returns c = search testing-end
 
 pub waiting-in-spec : {M : Type 1} → statement M
-waiting-in-spec = tie.close (tie.spec Inv-loop μ-loop loop-holds add-at array-read-all add-i loop-less loop-again returns)
+waiting-in-spec = tie.close (tie.spec Inv-loop μ-loop loop-holds add-at array-read-held add-i loop-less loop-again returns)

@@ -10,11 +10,11 @@ returns : tie.Need-returns
 unfolding voiced
 returns c = search (tests, calls)
 
-apply-register-requires : tie.Need-apply-register-requires
-apply-register-requires c κs = search needs
+applied-requires : tie.Need-applied-requires
+applied-requires c κs = search needs
 
 returns-2 : tie.Need-returns-2
 returns-2 c = search voiced-yes
 
 pub write-register-spec : {M : Type 1} → statement M
-write-register-spec = tie.close (tie.spec returns apply-register-requires returns-2)
+write-register-spec = tie.close (tie.spec returns applied-requires returns-2)
