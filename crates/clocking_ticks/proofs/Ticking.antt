@@ -1,5 +1,5 @@
 -- One more tick of a word's ticking, and what the ticking adds up to. Assumes nothing.
-use mathlib.Core.Path.{_≡_, refl, sym, ap, _∙_}
+use mathlib.Core.Path.{_≡_, refl, sym, ap, _∙_, subst}
 use Prim.Native.Nat.{ℕ, zero, suc, _+_, _-_, _≤_, _<_}
 use native.Mathlib.Omega.{arith}
 use lib.Bits.{bitOr}
@@ -104,3 +104,36 @@ module _ {gates : Gates} {rate internal a₀ sum gate n more : ℕ} {t₀ t next
   pub turns-done : {g g₀ : Generators} → internal ≤ sum + rate → g ≡ shown next → shown t₀ ≡ g₀
       → ranSo g (bitOr gate more) (sum + rate - internal) (n + 1) ≡ ticked gates rate internal g₀ a₀
   turns-done q same began = rw (same, sym began) (going-done (i .going) ticks side heard q)
+
+-- the same as the code counts it: `gap` is what the accumulator has left to the internal clock
+pub record Closing (gates : Gates) (rate internal a₀ : ℕ) (t₀ t : Turning) (gate gap n : ℕ) : Type 0 where
+  pub some : 0 < gap
+  pub most : gap ≤ internal
+  pub turns : Turns gates rate internal a₀ t₀ t gate (internal - gap) n
+
+pub closing-start : {gates : Gates} {rate internal a : ℕ} {t : Turning} → Held t → ClocksRun a rate internal → Closing gates rate internal a t t 0 (internal - a) 0
+closing-start {gates} {rate} {internal} {a} {t} h k =
+    let back : a ≡ internal - (internal - a) = omega (arith, k .under, k .slow) in
+    record {
+      some = omega (arith, k .under, k .slow);
+      most = omega arith;
+      turns = subst (λ (sum : ℕ). Turns gates rate internal a t t 0 sum 0) back (turns-start h k);
+    }
+
+module _ {gates : Gates} {rate internal a₀ gap gate n more : ℕ} {t₀ t next : Turning} (i : Closing gates rate internal a₀ t₀ t gate gap n)
+    (e : next ≡ turned t) (h : Held next) (m : more ≡ gateOf gates (next .edges) (next .output)) where
+  pub closing-next : rate < gap → Closing gates rate internal a₀ t₀ next (bitOr gate more) (gap - rate) (n + 1)
+  closing-next q =
+      let short : internal - gap + rate < internal = omega (arith, i .most) in
+      let same : internal - gap + rate ≡ internal - (gap - rate) = omega (arith, i .most) in
+      record {
+        some = omega arith;
+        most = omega (arith, i .most);
+        turns = subst (λ (sum : ℕ). Turns gates rate internal a₀ t₀ next (bitOr gate more) sum (n + 1)) same (turns-next (i .turns) e h m short);
+      }
+
+  pub closing-done : {g g₀ : Generators} → gap ≤ rate → g ≡ shown next → shown t₀ ≡ g₀ → ranSo g (bitOr gate more) (rate - gap) (n + 1) ≡ ticked gates rate internal g₀ a₀
+  closing-done {g} {g₀} q same began =
+      let reached : internal ≤ internal - gap + rate = omega (arith, i .most) in
+      let over : rate - gap ≡ internal - gap + rate - internal = omega (arith, i .most) in
+      ap (λ (a : ℕ). ranSo g (bitOr gate more) a (n + 1)) over ∙ turns-done (i .turns) e h m reached same began

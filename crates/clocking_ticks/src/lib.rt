@@ -33,20 +33,21 @@ pub fn run_ticks(
     ensures { λ r. ⌜ r ≡ ticked gates rate internal generators accumulator ⌝ }
 {
     let mut turning = Turning::of(generators);
-    let mut sum = accumulator;
+    // what the accumulator has left to the internal clock
+    let mut gap = internal - accumulator;
     let mut gathered: u32 = 0;
     let mut n: u32 = 0;
     let taken = loop {
         turning = turning.tick();
         gathered = gathered | gates.gate(turning.edges, turning.output);
-        sum = sum + rate;
         n = n + 1;
-        if sum >= internal {
+        if gap <= rate {
             break Taken {
                 gate: gathered,
-                accumulator: sum - internal,
+                accumulator: rate - gap,
             };
         }
+        gap = gap - rate;
     };
     let after = turning.generators();
     Ran {
