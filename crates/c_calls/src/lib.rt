@@ -1,9 +1,8 @@
-// The calls on a host's record, by value, that `c_interface` makes on a copy of it: makings have `c_making`, words `c_words`, and what
-// changes or reads parts of it `c_steps` and `steps_*`.
+// The call on a host's record, by value, that `c_interface` makes on a copy of it: makings have `c_making`, words `c_words`, and what
+// changes or reads parts of it `c_steps`, `c_queue` and `steps_*`.
 ghost use mathlib.Core.Path.{_≡_};
 ghost use Rattle.c_calls.specs.Calls.{onRecord};
 ghost use Rattle.calls_making.specs.Making.{resetCall};
-ghost use Rattle.calls_cycles.specs.Cycles.{flushPendingWrites};
 use c_record::Record;
 use c_told::Told;
 
@@ -12,11 +11,4 @@ pub fn reset(chip: Record) -> Told
 {
     let held = c_record::chip_of(chip);
     c_told::tell(chip, calls_making::reset(held))
-}
-
-pub fn flush_pending_writes(chip: Record) -> Told
-    ensures { λ r. ⌜ r ≡ onRecord flushPendingWrites chip ⌝ }
-{
-    let held = c_record::chip_of(chip);
-    c_told::tell(chip, calls_cycles::flush_pending_writes(held))
 }

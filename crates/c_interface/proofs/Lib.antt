@@ -1,6 +1,7 @@
 pub mod Making
 pub mod Ports
 pub mod Stamps
+pub mod Flushing
 pub mod Voices
 pub mod Said
 pub mod Sampling

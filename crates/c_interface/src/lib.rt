@@ -203,9 +203,26 @@ pub extern "C" fn ym2149_flush_pending_writes(chip: &mut Record) -> u8
     ensures { λ r. ⌜ (r ≡ onRecord flushPendingWrites (now (chip .entry)) .no)
         × (now (chip .exit) ≡ onRecord flushPendingWrites (now (chip .entry)) .chip) ⌝ }
 {
-    let r = c_calls::flush_pending_writes(*chip);
-    *chip = r.chip;
-    r.no
+    let ok = lent_record::in_range(&*chip);
+    let flushed = c_queue::flush_pending_writes(
+        &chip.queue.stamps,
+        &chip.queue.registers,
+        &chip.queue.values,
+        ok,
+        chip.core.a.drum,
+        chip.core.b.drum,
+        chip.core.c.drum,
+        chip.core.voice,
+        chip.queue.head,
+        chip.queue.count,
+    );
+    chip.core.a.drum = flushed.a;
+    chip.core.b.drum = flushed.b;
+    chip.core.c.drum = flushed.c;
+    chip.core.voice = flushed.voice;
+    chip.queue.head = flushed.head;
+    chip.queue.count = flushed.count;
+    flushed.no
 }
 
 #[no_mangle]

@@ -343,7 +343,7 @@ pub fn write_port(
 }
 
 // A refused call leaves a drum as it was, in every byte.
-fn settled(no: u8, drum: RecordDrum) -> RecordDrum
+pub fn settled(no: u8, drum: RecordDrum) -> RecordDrum
     ensures { λ r. ⌜ r ≡ settled no drum ⌝ }
 {
     if no != refusals::ACCEPTED {

@@ -103,9 +103,20 @@ pub fn flush_pending_writes(chip: &mut Chip) -> u8
     ensures { λ r. ⌜ (r ≡ flushPendingWrites (now (chip .entry)) .no)
         × (now (chip .exit) ≡ flushPendingWrites (now (chip .entry)) .chip) ⌝ }
 {
-    let r = calls_cycles::flush_pending_writes(*chip);
-    *chip = r.chip;
-    r.no
+    let ok = lent_chip::in_range(&*chip);
+    let flushed = steps_queue::flush_pending_writes(
+        &chip.queue.stamps,
+        &chip.queue.registers,
+        &chip.queue.values,
+        ok,
+        chip.core.voice,
+        chip.queue.head,
+        chip.queue.count,
+    );
+    chip.core.voice = flushed.voice;
+    chip.queue.head = flushed.head;
+    chip.queue.count = flushed.count;
+    flushed.no
 }
 
 pub fn set_timer_irq_state(chip: &mut Chip, on: bool) -> u8

@@ -1,17 +1,21 @@
--- The calls on stamps are what their steps make and answer of the chip's stamp, start and count. Assumes nothing.
+-- The calls on stamps and the queue are what their steps make and answer of the chip's stamp, start, voice and ring. Assumes nothing.
 use mathlib.Core.Path.{_≡_, refl}
 use mathlib.Core.Bool.{Bool, true, false, cond}
 use Prim.Native.Nat.{ℕ}
 use Rattle.refusals.specs.Numbers.{accepted, outOfRange}
 use Rattle.chip.specs.declared.Chip.{Chip}
 use Rattle.chip.specs.Range.{chipIn}
-use Rattle.chip_parts.specs.Parts.{withTimes}
+use Rattle.queue.specs.Waiting.{emptied, ring, waiting}
+use Rattle.queue_flush.specs.Applied.{applyAll}
+use Rattle.chip_parts.specs.Parts.{withQueue, withTimes, withVoice}
 use Rattle.answers.specs.Answers.{answered}
 use Rattle.answers.specs.declared.Answered.{Answered}
 use Rattle.steps_cycles.specs.declared.Stamped.{Stamped}
 use Rattle.steps_cycles.specs.declared.Synced.{Synced}
 use Rattle.steps_cycles.specs.CycleSteps.{bothSet, countSaid, cycleSaid, stamped, stampSet, synced}
-use Rattle.calls_cycles.specs.Cycles.{cpuCycle, pendingWriteCount, setCpuCycle, syncSampleCycle}
+use Rattle.steps_queue.specs.declared.FlushStep.{FlushStep}
+use Rattle.steps_queue.specs.QueueSteps.{flushLeaves, flushStep}
+use Rattle.calls_cycles.specs.Cycles.{cpuCycle, flushed, flushPendingWrites, pendingWriteCount, setCpuCycle, syncSampleCycle}
 
 -- the chip after a step, and its number
 abbrev pub with-stamp : Stamped → Chip → Answered
@@ -35,6 +39,18 @@ both-same false n c = refl
 pub both-set : (n : ℕ) (c : Chip) → with-both (bothSet (chipIn c) (c .core .stamp) (c .core .start) n) c ≡ syncSampleCycle n c
 unfolding bothSet syncSampleCycle
 both-set n c = both-same (chipIn c) n c
+
+-- the slots are as they were
+abbrev pub with-flush : FlushStep → Chip → Answered
+with-flush r c = answered (r .no) (withQueue (ring (c .queue .stamps) (c .queue .registers) (c .queue .values) (r .head) (r .count)) (withVoice (r .voice) c))
+
+flush-same : (ok : Bool) (c : Chip) → with-flush (cond ok (flushLeaves (applyAll (waiting (c .queue)) (c .core .voice)) (emptied (c .queue)) accepted) (flushLeaves (c .core .voice) (c .queue) outOfRange)) c ≡ cond ok (answered accepted (flushed c)) (answered outOfRange c)
+flush-same true c = refl
+flush-same false c = refl
+
+pub flush-set : (c : Chip) → with-flush (flushStep (chipIn c) (c .core .voice) (c .queue)) c ≡ flushPendingWrites c
+unfolding flushStep flushPendingWrites
+flush-set c = flush-same (chipIn c) c
 
 pub cycle-said : (c : Chip) → cycleSaid (chipIn c) (c .core .stamp) ≡ cpuCycle c
 unfolding cycleSaid cpuCycle

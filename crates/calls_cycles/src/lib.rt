@@ -45,14 +45,28 @@ pub fn sync_sample_cycle(chip: Chip, cycle: u64) -> Answered
 pub fn flush_pending_writes(chip: Chip) -> Answered
     ensures { λ r. ⌜ r ≡ flushPendingWrites chip ⌝ }
 {
-    if !chip::in_range(chip) {
-        return answers::refused(chip);
-    }
-    let voice = queue_flush::flush(chip.queue, chip.core.voice);
-    let queue = chip.queue.emptied();
+    let ok = chip::in_range(chip);
+    let ring = chip.queue;
     let mut core = chip.core;
+    let r = steps_queue::flush_pending_writes(
+        &ring.stamps,
+        &ring.registers,
+        &ring.values,
+        ok,
+        core.voice,
+        ring.head,
+        ring.count,
+    );
+    let voice = r.voice;
     core.voice = voice;
-    answers::accepted(Chip { core, queue })
+    let mut queue = ring;
+    queue.head = r.head;
+    queue.count = r.count;
+    let after = Chip { core, queue };
+    Answered {
+        chip: after,
+        no: r.no,
+    }
 }
 
 pub fn pending_write_count(chip: Chip) -> Count

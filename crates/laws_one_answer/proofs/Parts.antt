@@ -81,7 +81,6 @@ parts =
       queue-in-range = λ h x y. by-answer (h .𝓤);
       queue-push = λ h x y. both (h .𝓤) (λ p q i. (same (p .ring) (q .ring) i, x .1));
       queue-flush = λ h x y. by-answer (h .𝓤);
-      queue-emptied = λ h x y. by-answer (h .𝓤);
       drain = λ h x y. both (h .𝓤) (λ p q i. (same (p .small) (q .small) i, x .1));
       drain-one = λ h x y. both (h .𝓤) (λ p q i. (same (p .small) (q .small) i, x .1));
       run-ticks = λ h x y. by-answer (h .𝓤);

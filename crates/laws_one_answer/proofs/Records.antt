@@ -16,7 +16,6 @@ held =
       new = λ h x y. by-answer (h .𝓤);
       with-clocks = λ h x y. by-answer (h .𝓤);
       reset = λ h x y. by-answer (h .𝓤);
-      flush-pending-writes = λ h x y. by-answer (h .𝓤);
       compute-next-sample = λ h x y. by-answer (h .𝓤);
       block = λ h x y. by-buffer (h .𝓤) (λ w. (tt, (w, tt)));
     }

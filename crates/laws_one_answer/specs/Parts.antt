@@ -74,7 +74,6 @@ use Rattle.queue.proofs.Queue.new as queue-new
 use Rattle.queue.proofs.Queue.in_range as queue-in-range
 use Rattle.queue.proofs.Queue.push as queue-push
 use Rattle.queue_flush.proofs.flush as queue-flush
-use Rattle.queue.proofs.Queue.emptied as queue-emptied
 use Rattle.queue_drain.proofs.drain
 use Rattle.queue_drain.proofs.drain_one as drain-one
 use Rattle.clocking_ticks.proofs.run_ticks as run-ticks
@@ -177,7 +176,6 @@ pub record Parts : Type 2 where
   pub queue-in-range : Settles queue-in-range.ended (λ M. queue-in-range.clauses)
   pub queue-push : Settles queue-push.ended (λ M. queue-push.clauses)
   pub queue-flush : Settles queue-flush.ended (λ M. queue-flush.clauses)
-  pub queue-emptied : Settles queue-emptied.ended (λ M. queue-emptied.clauses)
   pub drain : Settles drain.ended (λ M. drain.clauses)
   pub drain-one : Settles drain-one.ended (λ M. drain-one.clauses)
   pub run-ticks : Settles run-ticks.ended (λ M. run-ticks.clauses)

@@ -10,7 +10,6 @@ use Rattle.c_record.proofs.record_channel as record-channel
 use Rattle.c_making.proofs.new
 use Rattle.c_making.proofs.with_clocks as with-clocks
 use Rattle.c_calls.proofs.reset
-use Rattle.c_calls.proofs.flush_pending_writes as flush-pending-writes
 use Rattle.c_words.proofs.compute_next_sample as compute-next-sample
 use Rattle.c_words.proofs.block
 use Rattle.laws_one_answer.specs.Settled.{Settles}
@@ -27,6 +26,5 @@ pub record Held : Type 2 where
   pub new : Settles new.ended (λ M. new.clauses)
   pub with-clocks : Settles with-clocks.ended (λ M. with-clocks.clauses)
   pub reset : Settles reset.ended (λ M. reset.clauses)
-  pub flush-pending-writes : Settles flush-pending-writes.ended (λ M. flush-pending-writes.clauses)
   pub compute-next-sample : Settles compute-next-sample.ended (λ M. compute-next-sample.clauses)
   pub block : Settles block.ended (λ M. block.clauses)

@@ -1,4 +1,4 @@
--- Every call of `steps_*`, `c_steps`, `queue_slot`, `lent_chip` and `lent_record` is settled, and the two tests by parts (`Settled`). Assumes nothing.
+-- Every call of `steps_*`, `c_steps`, `c_queue`, `queue_slot`, `lent_chip` and `lent_record` is settled, and the two tests by parts (`Settled`). Assumes nothing.
 use Rattle.queue.proofs.ring_in as ring-in
 use Rattle.chip.proofs.parts_in as parts-in
 use Rattle.lent_chip.proofs.in_range as chip-in-range
@@ -7,6 +7,7 @@ use Rattle.steps_cycles.proofs.set_cpu_cycle as set-cpu-cycle
 use Rattle.steps_cycles.proofs.sync_sample_cycle as sync-sample-cycle
 use Rattle.steps_cycles.proofs.cpu_cycle as cpu-cycle
 use Rattle.steps_cycles.proofs.pending_write_count as pending-write-count
+use Rattle.steps_queue.proofs.flush_pending_writes as flush-pending-writes
 use Rattle.queue_slot.proofs.put_stamp as put-stamp
 use Rattle.queue_slot.proofs.put_byte as put-byte
 use Rattle.steps_ports.proofs.write_port as write-port
@@ -25,6 +26,8 @@ use Rattle.steps_effects.proofs.set_timer_irq_state as set-timer-irq-state
 use Rattle.steps_effects.proofs.trigger_envelope as trigger-envelope
 use Rattle.c_steps.proofs.set_cpu_cycle as c-set-cpu-cycle
 use Rattle.c_steps.proofs.sync_sample_cycle as c-sync-sample-cycle
+use Rattle.c_steps.proofs.settled as c-settled
+use Rattle.c_queue.proofs.flush_pending_writes as c-flush-pending-writes
 use Rattle.c_steps.proofs.write_register as c-write-register
 use Rattle.c_steps.proofs.load_registers as c-load-registers
 use Rattle.c_steps.proofs.write_port_immediate as c-write-port-immediate
@@ -45,6 +48,7 @@ pub record Steps : Type 2 where
   pub sync-sample-cycle : Settles sync-sample-cycle.ended (λ M. sync-sample-cycle.clauses)
   pub cpu-cycle : Settles cpu-cycle.ended (λ M. cpu-cycle.clauses)
   pub pending-write-count : Settles pending-write-count.ended (λ M. pending-write-count.clauses)
+  pub flush-pending-writes : Settles flush-pending-writes.ended (λ M. flush-pending-writes.clauses)
   pub put-stamp : Settles put-stamp.ended (λ M. put-stamp.clauses)
   pub put-byte : Settles put-byte.ended (λ M. put-byte.clauses)
   pub write-port : Settles write-port.ended (λ M. write-port.clauses)
@@ -63,6 +67,8 @@ pub record Steps : Type 2 where
   pub trigger-envelope : Settles trigger-envelope.ended (λ M. trigger-envelope.clauses)
   pub c-set-cpu-cycle : Settles c-set-cpu-cycle.ended (λ M. c-set-cpu-cycle.clauses)
   pub c-sync-sample-cycle : Settles c-sync-sample-cycle.ended (λ M. c-sync-sample-cycle.clauses)
+  pub c-settled : Settles c-settled.ended (λ M. c-settled.clauses)
+  pub c-flush-pending-writes : Settles c-flush-pending-writes.ended (λ M. c-flush-pending-writes.clauses)
   pub c-write-register : Settles c-write-register.ended (λ M. c-write-register.clauses)
   pub c-load-registers : Settles c-load-registers.ended (λ M. c-load-registers.clauses)
   pub c-write-port-immediate : Settles c-write-port-immediate.ended (λ M. c-write-port-immediate.clauses)

@@ -1,15 +1,16 @@
 -- `queue_flush::flush` meets its contract: the invariant and its steps are laws of `proofs/Flushing.antt`. Assumes nothing.
 use native.Mathlib.Omega.{arith}
 use borrow.Author.Needs.{needs}
+use Rattle.queue.specs.Waiting.{ring}
 use Rattle.queue_flush.proofs.Flushing.{Flushing, flushing-start, flushing-on, flushing-end}
 use Rattle.queue_flush.proofs.flush.Statement.{statement}
 use Rattle.queue_flush.proofs.flush.Tie as tie
 
 abbrev Inv-loop : tie.InvT-loop
-Inv-loop queue v₀ at₀ left₀ v at left = Flushing queue v₀ v at left
+Inv-loop stamps registers values head count v₀ at₀ left₀ v at left = Flushing (ring stamps registers values head count) v₀ v at left
 
 abbrev μ-loop : tie.MeasureT-loop
-μ-loop queue v₀ at₀ left₀ v at left = left
+μ-loop stamps registers values head count v₀ at₀ left₀ v at left = left
 
 loop-holds : tie.Need-loop-holds Inv-loop μ-loop
 loop-holds c = search flushing-start
