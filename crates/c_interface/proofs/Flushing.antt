@@ -13,7 +13,7 @@ use Rattle.registers.specs.declared.Voice.{Voice}
 use Rattle.queue.specs.declared.Queue.{Queue}
 use Rattle.queue.specs.Waiting.{emptied, QueueInRange, ring, waiting}
 use Rattle.queue_flush.specs.Applied.{applyAll}
-use Rattle.queue_slot.proofs.Slots.{same-ring, shown}
+use Rattle.lent_chip.proofs.ShownRing.{same-ring}
 use Rattle.chip.specs.Range.{chipIn}
 use Rattle.chip.proofs.InRange.{passed}
 use Rattle.answers.specs.Answers.{answered}

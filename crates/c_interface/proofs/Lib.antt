@@ -7,3 +7,4 @@ pub mod Said
 pub mod Sampling
 pub mod Effects
 pub mod Mutes
+pub mod Blocking

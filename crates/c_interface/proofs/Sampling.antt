@@ -1,13 +1,14 @@
 -- One word, split into what its step is shown of a lent record, what it takes out, and what is stored back. Assumes nothing.
 use mathlib.Core.Path.{_≡_, refl, sym, ap, _∙_, subst}
 use mathlib.Core.Bool.{Bool, true, false, cond}
-use mathlib.Core.List.{[], _∷_, List, map}
+use mathlib.Core.List.{[], _∷_, List}
 use Prim.Native.Nat.{ℕ}
 use lib.Dec.{eqb}
-use Rattle.lent_walks.proofs.Parts.{Part, Reply, FieldsFrom, kinds, offset, map-same, puts}
+use Rattle.lent_walks.proofs.Parts.{Part, Reply, FieldsFrom, kinds, offset, puts}
 use Rattle.lent_walks.proofs.Ring as walk
 use Rattle.lent_record.proofs.RecordParts.{accumulator, channel-a, channel-b, channel-c, clocks, count, head, registers, stamps, start, values, voice}
 use Rattle.lent_record.proofs.Lengths.{record-laid}
+use Rattle.lent_chip.proofs.ShownRing.{same-ring}
 use Rattle.refusals.specs.Numbers.{accepted}
 use Rattle.registers.specs.declared.Voice.{Voice}
 use Rattle.queue.specs.declared.Queue.{Queue}
@@ -71,13 +72,6 @@ asks s a = a .0 ≡ true → Playable (chip-of s a)
 abbrev pub step : Shown → Taken → RecordWord
 step s a = recordWord (a .1 .1 .1 .0) (a .1 .1 .1 .1 .0) (a .1 .1 .1 .1 .1 .0) (wordStep (a .0) (chip-of s a))
 
--- the ring is shown by each of its numbers: the same numbers
-abbrev ring-shown : Record → Queue
-ring-shown x = ring (map (λ v. v) (x .queue .stamps)) (map (λ v. v) (x .queue .registers)) (map (λ v. v) (x .queue .values)) (x .queue .head) (x .queue .count)
-
-same-ring : (x : Record) → ring-shown x ≡ x .queue
-same-ring x = λ i. ring (map-same (x .queue .stamps) i) (map-same (x .queue .registers) i) (map-same (x .queue .values) i) (x .queue .head) (x .queue .count)
-
 abbrev with-ring : Record → Queue → Chip
 with-ring x q = chipAt (x .core .clocks) (x .core .voice) (channelsOf (x .core .a) (x .core .b) (x .core .c)) (x .core .accumulator) (x .core .start) q
 
@@ -97,9 +91,9 @@ told-by x ok = let w = wordStep ok (parts (chipOf x)) in leaves-by x w (eqb (w .
 pub split : walk.Split stamps registers values taken reply (λ x. chipIn (chipOf x)) asks step (λ x. nextWord x .answer) (λ x. nextWord x .chip)
 unfolding coreOf
 split = record {
-  asks = λ x is ok. subst (λ (q : Queue). Playable (with-ring x q)) (sym (same-ring x)) (playable (passed (record-laid x is) ok));
-  answers = λ x. ap (λ (q : Queue). wordStep (chipIn (chipOf x)) (with-ring x q) .answer) (same-ring x) ∙ ap (λ (r : Sampled). r .answer) (sampled-by (chipOf x));
+  asks = λ x is ok. subst (λ (q : Queue). Playable (with-ring x q)) (sym (same-ring (x .queue))) (playable (passed (record-laid x is) ok));
+  answers = λ x. ap (λ (q : Queue). wordStep (chipIn (chipOf x)) (with-ring x q) .answer) (same-ring (x .queue)) ∙ ap (λ (r : Sampled). r .answer) (sampled-by (chipOf x));
   leaves = λ x.
-      ap (λ (q : Queue). puts changed (reply .gives (recordWord (x .core .a) (x .core .b) (x .core .c) (wordStep (chipIn (chipOf x)) (with-ring x q)))) x) (same-ring x)
+      ap (λ (q : Queue). puts changed (reply .gives (recordWord (x .core .a) (x .core .b) (x .core .c) (wordStep (chipIn (chipOf x)) (with-ring x q)))) x) (same-ring (x .queue))
       ∙ told-by x (chipIn (chipOf x)) ∙ ap (λ (r : Sampled). toldSample x r .chip) (sampled-by (chipOf x));
 }

@@ -379,9 +379,21 @@ pub extern "C" fn ym2149_block(chip: &mut Record, out: &mut [u16]) -> Played
         × (now (chip .exit) ≡ nextBlock (length (now (out .entry))) (now (chip .entry)) .chip)
         × (now (out .exit) ≡ blockBuffer (now (out .entry)) (chipOf (now (chip .entry)))) ⌝ }
 {
-    let r = c_words::block(*chip, out);
-    *chip = r.chip;
-    r.answer
+    let ok = lent_record::in_range(&*chip);
+    let played = c_blocks::block(
+        &chip.queue.stamps,
+        &chip.queue.registers,
+        &chip.queue.values,
+        out,
+        ok,
+        chip.core,
+        chip.queue.head,
+        chip.queue.count,
+    );
+    chip.core = played.core;
+    chip.queue.head = played.head;
+    chip.queue.count = played.count;
+    played.answer
 }
 
 #[no_mangle]

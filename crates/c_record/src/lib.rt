@@ -75,7 +75,7 @@ pub fn drum_of(drum: RecordDrum) -> Drum
     Drum::Off
 }
 
-fn core_of(core: RecordCore) -> Core
+pub fn core_of(core: RecordCore) -> Core
     ensures { λ r. ⌜ r ≡ coreOf core ⌝ }
 {
     let clocks = core.clocks;
@@ -95,7 +95,7 @@ fn core_of(core: RecordCore) -> Core
     }
 }
 
-fn record_core(core: Core) -> RecordCore
+pub fn record_core(core: Core) -> RecordCore
     ensures { λ r. ⌜ r ≡ recordCore core ⌝ }
 {
     let clocks = core.clocks;

@@ -9,7 +9,7 @@ use Rattle.chip.specs.declared.Chip.{Chip}
 use Rattle.c_record.specs.declared.Record.{Record}
 use Rattle.c_record.specs.Record.{recordOf}
 use Rattle.c_told.specs.declared.Told.{Told}
-use Rattle.c_told.specs.declared.ToldBlock.{ToldBlock}
+use Rattle.answers.specs.declared.Played.{Played}
 use Rattle.answers.specs.declared.Sample.{Sample}
 use Rattle.refusals.specs.Numbers.{accepted}
 
@@ -27,6 +27,10 @@ pub record ToldSample : Type 0 where
 
 abbrev pub toldSample : Record → Sampled → ToldSample
 toldSample x a = record { chip = lentBack x (a .answer .no) (a .chip); answer = a .answer }
+
+pub record ToldBlock : Type 0 where
+  pub chip : Record
+  pub answer : Played
 
 abbrev pub toldBlock : Record → Blocked → ToldBlock
 toldBlock x a = record { chip = lentBack x (a .answer .no) (a .chip); answer = a .answer }

@@ -1,9 +1,7 @@
 // What a call leaves in a host's record, and what it answers. 01, "Numbers a call can answer".
 ghost use mathlib.Core.Path.{_≡_};
-ghost use Rattle.c_told.specs.Told.{lentBack, told, toldBlock};
+ghost use Rattle.c_told.specs.Told.{lentBack, told};
 use answers::Answered;
-use answers::Blocked;
-use answers::Played;
 use c_record::Record;
 use chip::Chip;
 
@@ -13,25 +11,12 @@ pub struct Told {
     pub no: u8,
 }
 
-pub struct ToldBlock {
-    pub chip: Record,
-    pub answer: Played,
-}
-
 pub fn tell(lent: Record, answered: Answered) -> Told
     ensures { λ r. ⌜ r ≡ told lent answered ⌝ }
 {
     let no = answered.no;
     let chip = lent_back(lent, no, answered.chip);
     Told { chip, no }
-}
-
-pub fn tell_block(lent: Record, blocked: Blocked) -> ToldBlock
-    ensures { λ r. ⌜ r ≡ toldBlock lent blocked ⌝ }
-{
-    let answer = blocked.answer;
-    let chip = lent_back(lent, answer.no, blocked.chip);
-    ToldBlock { chip, answer }
 }
 
 // A refused call leaves the record as it was, in every byte.

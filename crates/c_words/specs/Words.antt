@@ -8,8 +8,7 @@ use Rattle.three_channels.specs.declared.Channels.{Channels}
 use Rattle.c_record.specs.declared.Record.{Record}
 use Rattle.c_record.specs.declared.RecordChannel.{RecordChannel}
 use Rattle.c_record.specs.Record.{channelOf, chipOf, recordChannel}
-use Rattle.c_told.specs.declared.ToldBlock.{ToldBlock}
-use Rattle.c_told.specs.Told.{ToldSample, toldBlock, toldSample}
+use Rattle.c_told.specs.Told.{ToldBlock, ToldSample, toldBlock, toldSample}
 use Rattle.steps_words.specs.declared.WordStep.{WordStep}
 use Rattle.c_words.specs.declared.RecordWord.{RecordWord}
 use Rattle.calls_words.specs.Blocks.{blocked, sampled}

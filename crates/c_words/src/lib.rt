@@ -1,16 +1,11 @@
-// One word and a block on a host's record, by value. 01, "One tick, one word".
+// One word on the parts of a host's record, by value. 01, "One tick, one word".
 ghost use mathlib.Core.Path.{_≡_};
-ghost use lib.ListN.{length};
-ghost use Rattle.c_record.specs.Record.{chipOf};
-ghost use Rattle.calls_words.specs.Blocks.{blockBuffer};
-ghost use Rattle.c_words.specs.Words.{channelsOf, leftOf, nextBlock, recordWord};
+ghost use Rattle.c_words.specs.Words.{channelsOf, leftOf, recordWord};
 ghost use mathlib.Core.Bool.{true};
 ghost use Rattle.queue.specs.Waiting.{ring};
 ghost use Rattle.steps_words.specs.WordSteps.{chipAt, Playable, wordStep};
 use answers::Sample;
-use c_record::Record;
 use c_record::RecordChannel;
-use c_told::ToldBlock;
 use channel::Channel;
 use chip::Clocks;
 use registers::Voice;
@@ -90,13 +85,4 @@ fn left(no: u8, before: RecordChannel, after: Channel) -> RecordChannel
         return before;
     }
     c_record::record_channel(after)
-}
-
-// A refused block leaves every word of the buffer.
-pub fn block(chip: Record, out: &mut [u16]) -> ToldBlock
-    ensures answer { λ r. ⌜ r ≡ nextBlock (length (now (out .entry))) chip ⌝ }
-    ensures buffer { λ r. ⌜ now (out .exit) ≡ blockBuffer (now (out .entry)) (chipOf chip) ⌝ }
-{
-    let held = c_record::chip_of(chip);
-    c_told::tell_block(chip, calls_words::block(held, out))
 }

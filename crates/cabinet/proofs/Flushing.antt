@@ -11,7 +11,7 @@ use Rattle.lent_chip.proofs.Lengths.{chip-laid}
 use Rattle.registers.specs.declared.Voice.{Voice}
 use Rattle.queue.specs.declared.Queue.{Queue}
 use Rattle.queue.specs.Waiting.{QueueInRange, ring}
-use Rattle.queue_slot.proofs.Slots.{same-ring, shown}
+use Rattle.lent_chip.proofs.ShownRing.{ring-shown, same-ring}
 use Rattle.chip.specs.declared.Chip.{Chip}
 use Rattle.chip.specs.Range.{chipIn}
 use Rattle.chip.proofs.InRange.{passed}
@@ -50,7 +50,7 @@ asks s a = a .0 ≡ true → QueueInRange (ring-of s a)
 abbrev pub step : Shown → Taken → FlushStep
 step s a = flushStep (a .0) (a .1 .0) (ring-of s a)
 
-stepped : (c : Chip) → with-flush (flushStep (chipIn c) (c .core .voice) (shown (c .queue))) c ≡ flushPendingWrites c
+stepped : (c : Chip) → with-flush (flushStep (chipIn c) (c .core .voice) (ring-shown (c .queue))) c ≡ flushPendingWrites c
 stepped c = ap (λ (q : Queue). with-flush (flushStep (chipIn c) (c .core .voice) q) c) (same-ring (c .queue)) ∙ flush-set c
 
 pub split : walk.Split stamps registers values parts reply chipIn asks step (λ c. flushPendingWrites c .no) (λ c. flushPendingWrites c .chip)

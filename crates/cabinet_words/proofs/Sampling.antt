@@ -1,12 +1,13 @@
 -- One word, split into what its step is shown of a lent chip, what it takes out, and what is stored back. Assumes nothing.
 use mathlib.Core.Path.{_≡_, refl, sym, ap, _∙_, subst}
 use mathlib.Core.Bool.{Bool, true}
-use mathlib.Core.List.{[], _∷_, List, map}
+use mathlib.Core.List.{[], _∷_, List}
 use Prim.Native.Nat.{ℕ}
-use Rattle.lent_walks.proofs.Parts.{Part, Reply, FieldsFrom, kinds, offset, map-same}
+use Rattle.lent_walks.proofs.Parts.{Part, Reply, FieldsFrom, kinds, offset}
 use Rattle.lent_walks.proofs.Ring as walk
 use Rattle.lent_chip.proofs.ChipParts.{accumulator, channels, clocks, count, head, registers, stamps, start, values, voice}
 use Rattle.lent_chip.proofs.Lengths.{chip-laid}
+use Rattle.lent_chip.proofs.ShownRing.{ring-shown, same-ring}
 use Rattle.registers.specs.declared.Voice.{Voice}
 use Rattle.three_channels.specs.declared.Channels.{Channels}
 use Rattle.queue.specs.declared.Queue.{Queue}
@@ -60,19 +61,15 @@ asks s a = a .0 ≡ true → Playable (chip-of s a)
 abbrev pub step : Shown → Taken → WordStep
 step s a = wordStep (a .0) (chip-of s a)
 
--- the ring is shown by each of its numbers: the same numbers
-same-ring : (c : Chip) → ring (map (λ v. v) (c .queue .stamps)) (map (λ v. v) (c .queue .registers)) (map (λ v. v) (c .queue .values)) (c .queue .head) (c .queue .count) ≡ c .queue
-same-ring c = λ i. ring (map-same (c .queue .stamps) i) (map-same (c .queue .registers) i) (map-same (c .queue .values) i) (c .queue .head) (c .queue .count)
-
 abbrev with-ring : Chip → Queue → Chip
 with-ring c q = chipAt (c .core .clocks) (c .core .voice) (c .core .channels) (c .core .accumulator) (c .core .start) q
 
-stepped : (c : Chip) → sampledBy (wordStep (chipIn c) (with-ring c (ring (map (λ v. v) (c .queue .stamps)) (map (λ v. v) (c .queue .registers)) (map (λ v. v) (c .queue .values)) (c .queue .head) (c .queue .count)))) c ≡ sampled c
-stepped c = ap (λ (q : Queue). sampledBy (wordStep (chipIn c) (with-ring c q)) c) (same-ring c) ∙ sampled-by c
+stepped : (c : Chip) → sampledBy (wordStep (chipIn c) (with-ring c (ring-shown (c .queue)))) c ≡ sampled c
+stepped c = ap (λ (q : Queue). sampledBy (wordStep (chipIn c) (with-ring c q)) c) (same-ring (c .queue)) ∙ sampled-by c
 
 pub split : walk.Split stamps registers values taken reply chipIn asks step (λ c. sampled c .answer) (λ c. sampled c .chip)
 split = record {
-  asks = λ c is ok. subst (λ (q : Queue). Playable (with-ring c q)) (sym (same-ring c)) (playable (passed (chip-laid c is) ok));
+  asks = λ c is ok. subst (λ (q : Queue). Playable (with-ring c q)) (sym (same-ring (c .queue))) (playable (passed (chip-laid c is) ok));
   answers = λ c. ap (λ (r : Sampled). r .answer) (stepped c);
   leaves = λ c. ap (λ (r : Sampled). r .chip) (stepped c);
 }

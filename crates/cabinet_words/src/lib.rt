@@ -38,7 +38,19 @@ pub fn block(chip: &mut Chip, out: &mut [u16]) -> Played
         × (now (chip .exit) ≡ blocked (length (now (out .entry))) (now (chip .entry)) .chip)
         × (now (out .exit) ≡ blockBuffer (now (out .entry)) (now (chip .entry))) ⌝ }
 {
-    let r = calls_words::block(*chip, out);
-    *chip = r.chip;
+    let ok = lent_chip::in_range(&*chip);
+    let r = steps_blocks::block(
+        &chip.queue.stamps,
+        &chip.queue.registers,
+        &chip.queue.values,
+        out,
+        ok,
+        chip.core,
+        chip.queue.head,
+        chip.queue.count,
+    );
+    chip.core = r.core;
+    chip.queue.head = r.head;
+    chip.queue.count = r.count;
     r.answer
 }

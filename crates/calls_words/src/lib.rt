@@ -12,21 +12,24 @@ pub fn block(chip: Chip, out: &mut [u16]) -> Blocked
     ensures answer { λ r. ⌜ r ≡ blocked (length (now (out .entry))) chip ⌝ }
     ensures buffer { λ r. ⌜ now (out .exit) ≡ blockBuffer (now (out .entry)) chip ⌝ }
 {
-    if !chip::in_range(chip) {
-        return refused(chip, refusals::OUT_OF_RANGE);
-    }
-    let words = out.len();
-    let no = block_limits::block_no(chip.core.start, chip.core.clocks.cycles, words);
-    if no != refusals::ACCEPTED {
-        return refused(chip, no);
-    }
-    let rendered = clocking_block::render(chip, out);
-    let after = rendered.chip;
-    let answer = Played {
-        no: refusals::ACCEPTED,
-        words,
-        ticks: rendered.ticks,
-    };
+    let ok = chip::in_range(chip);
+    let ring = chip.queue;
+    let played = steps_blocks::block(
+        &ring.stamps,
+        &ring.registers,
+        &ring.values,
+        out,
+        ok,
+        chip.core,
+        ring.head,
+        ring.count,
+    );
+    let core = played.core;
+    let mut queue = ring;
+    queue.head = played.head;
+    queue.count = played.count;
+    let after = Chip { core, queue };
+    let answer = played.answer;
     Blocked {
         chip: after,
         answer,

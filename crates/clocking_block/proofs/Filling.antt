@@ -23,6 +23,7 @@ use Rattle.clocking_word.specs.Word.{endOf, mixedOf, offsetIn}
 use Rattle.clocking_run.specs.declared.Run.{Run}
 use Rattle.clocking_run.specs.Run.{coreAfter, wordsFrom, ticksFrom, leftBy, Runs}
 use Rattle.clocking_run.proofs.Kept.{Kept, run-kept}
+use Rattle.clocking_block.specs.declared.Rendered.{Rendered}
 use Rattle.clocking_block.specs.Block.{afterWords, ticksOf, wordsOf, blockOf, nextDue}
 use Rattle.clocking_block.proofs.Joined.{after-split, words-split, ticks-split}
 use Rattle.clocking_block.proofs.Quiet.{withKept, kept, kept-sounds, withDue, RanOn, ran-on}
@@ -190,21 +191,25 @@ module _ {table : List ℕ} {w : Wave} {c₀ : Chip} {core : Core} {gate head co
     unfolding wordsOf
     filled = sym (take-all i out h) ∙ sym (append-nil (take i out)) ∙ (rw none-left at (f .all))
 
-    at-end : record { chip = midway i core q gate; ticks = ticks } ≡ blockOf (length out₀) c₀
+    -- what a chip leaves, as the call gives it
+    abbrev left-of : Chip → ℕ → Rendered
+    left-of d t = record { core = d .core; head = d .queue .head; count = d .queue .count; ticks = t }
+
+    at-end : left-of (midway i core q gate) ticks ≡ blockOf (length out₀) c₀
     unfolding afterWords ticksOf
     at-end =
         let a : midway i core q gate ≡ afterWords (length out₀) c₀ = rw none-left at (f .last) in
         let t : ticks + 0 ≡ ticksOf (length out₀) c₀ = rw none-left at (f .sum) in
         let u : ticks ≡ ticksOf (length out₀) c₀ = omega arith in
-        rw (a, u)
+        λ j. left-of (a j) (u j)
 
     -- the channels keep what the last word left
     pub filling-kept : 0 < i → {m : Channels} → m ≡ mixedOf (core .channels) (core .voice) gate .channels
-        → record { chip = record { core = withKept m core; queue = ring stamps registers values head count }; ticks = ticks } ≡ blockOf (length out₀) c₀
+        → record { core = withKept m core; head = head; count = count; ticks = ticks } ≡ blockOf (length out₀) c₀
     unfolding kept
-    filling-kept some {m} e = rw e (sym (ap (λ (c : Chip). record { chip = c; ticks = ticks }) (midway-some i q some refl refl)) ∙ at-end)
+    filling-kept some {m} e = rw e (sym (ap (λ (c : Chip). left-of c ticks) (midway-some i q some refl refl)) ∙ at-end)
 
     -- no word at all
-    pub filling-none : i ≤ 0 → record { chip = record { core = core; queue = ring stamps registers values head count }; ticks = ticks } ≡ blockOf (length out₀) c₀
+    pub filling-none : i ≤ 0 → record { core = core; head = head; count = count; ticks = ticks } ≡ blockOf (length out₀) c₀
     unfolding kept
     filling-none none = let z : i ≡ 0 = omega arith in rw (sym (ap (λ (n : ℕ). kept n core gate) z)) at-end

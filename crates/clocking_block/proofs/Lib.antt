@@ -1,3 +1,4 @@
 pub mod Quiet
 pub mod Filling
 pub mod Joined
+pub mod Slots

@@ -4,9 +4,15 @@ use mathlib.Core.List.{List, [], _∷_}
 use Prim.Native.Nat.{ℕ, zero, suc, _+_}
 use lib.Dec.{eqb}
 use lib.ListN.{getD}
+use Rattle.queue.specs.declared.Queue.{Queue}
+use Rattle.chip.specs.declared.Core.{Core}
 use Rattle.chip.specs.declared.Chip.{Chip}
 use Rattle.clocking_word.specs.Word.{wordOf}
 use Rattle.clocking_block.specs.declared.Rendered.{Rendered}
+
+-- the chip of a core and a ring
+abbrev pub chipWith : Core → Queue → Chip
+chipWith core queue = record { core = core; queue = queue }
 
 -- n words, one after the other: the chip and the ticks after them, and the words
 abbrev pub afterOne : Chip → Chip
@@ -24,8 +30,9 @@ unfoldable pub wordsOf : ℕ → Chip → List ℕ
 wordsOf zero c = []
 wordsOf (suc n) c = wordOf (c .core) (c .queue) .word ∷ wordsOf n (afterOne c)
 
+-- what they leave of the core, of the ring's place and of its count, and their ticks; the ring's slots stay as they are
 abbrev pub blockOf : ℕ → Chip → Rendered
-blockOf n c = record { chip = afterWords n c; ticks = ticksOf n c }
+blockOf n c = let d = afterWords n c in record { core = d .core; head = d .queue .head; count = d .queue .count; ticks = ticksOf n c }
 
 -- the stamp of the first waiting write, or one that no word's end is past
 unfoldable pub nextDue : List ℕ → ℕ → ℕ → ℕ

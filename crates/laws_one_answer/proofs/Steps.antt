@@ -1,6 +1,6 @@
 -- Each by the law of its promise's form (`Laws`). Assumes nothing.
 use Rattle.laws_one_answer.specs.Steps.{Steps}
-use Rattle.laws_one_answer.proofs.Laws.{by-answer, by-array}
+use Rattle.laws_one_answer.proofs.Laws.{by-answer, by-array, by-buffer}
 
 pub steps : Steps
 steps =
@@ -43,4 +43,5 @@ steps =
       c-set-drum-sample-override = λ h x y. by-answer (h .𝓤);
       c-write-port = λ h x y. by-answer (h .𝓤);
       step-word = λ h x y. by-answer (h .𝓤);
+      step-block = λ h x y. by-buffer (h .𝓤) (λ w. (tt, (tt, (tt, (w, (tt, (tt, (tt, (tt, tt)))))))));
     }

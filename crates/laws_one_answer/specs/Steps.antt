@@ -37,6 +37,7 @@ use Rattle.c_steps.proofs.set_channel_mute as c-set-channel-mute
 use Rattle.c_steps.proofs.set_drum_sample_override as c-set-drum-sample-override
 use Rattle.c_steps.proofs.write_port as c-write-port
 use Rattle.steps_words.proofs.compute_next_sample as step-word
+use Rattle.steps_blocks.proofs.block as step-block
 use Rattle.laws_one_answer.specs.Settled.{Settles}
 
 pub record Steps : Type 2 where
@@ -78,3 +79,4 @@ pub record Steps : Type 2 where
   pub c-set-drum-sample-override : Settles c-set-drum-sample-override.ended (λ M. c-set-drum-sample-override.clauses)
   pub c-write-port : Settles c-write-port.ended (λ M. c-write-port.clauses)
   pub step-word : Settles step-word.ended (λ M. step-word.clauses)
+  pub step-block : Settles step-block.ended (λ M. step-block.clauses)

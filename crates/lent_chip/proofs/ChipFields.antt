@@ -34,7 +34,23 @@ generatorsf = structf generators′.the-type generators-laws.the-field-laws gene
 abbrev pub envelopef : Flat
 envelopef = structf envelope′.the-type envelope-laws.the-field-laws envelope-laws.the-field-plain
 
+abbrev pub coref : Flat
+coref = structf core′.the-type core-laws.the-field-laws core-laws.the-field-plain
+
 -- ---- of a chip, and of its core
+abbrev pub whole-core : Field chip′.the-type chip-laws.the-laws (plain coref)
+whole-core = record {
+  number = 0;
+  offset = offset chip-laws.mir 0;
+  there = refl;
+  of = λ c. c .core;
+  put = λ y c. withCore y c;
+  is = λ c. refl;
+  with-put = λ y c. refl;
+  ok = λ c are. are .0;
+  put-ok = λ y c y-ok are. (y-ok, are .1);
+}
+
 abbrev pub core : Field chip′.the-type chip-laws.the-laws (struct core′.the-type core-laws.the-laws)
 core = record {
   number = 0;

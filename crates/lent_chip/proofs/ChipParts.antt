@@ -324,3 +324,6 @@ drum-b = part drum (inside channel-b f.drum)
 
 abbrev pub drum-c : Part chip
 drum-c = part drum (inside channel-c f.drum)
+
+abbrev pub core : Part chip
+core = part f.coref (inside (here chip) f.whole-core)

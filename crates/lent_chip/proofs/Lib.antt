@@ -1,3 +1,4 @@
 pub mod ChipFields
 pub mod ChipParts
 pub mod Lengths
+pub mod ShownRing

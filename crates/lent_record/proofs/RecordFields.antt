@@ -1,7 +1,7 @@
 -- The fields of the structs within a lent record, of which `RecordParts.antt` makes its deeper parts; those of a voice are a chip's. Assumes nothing.
 use mathlib.Core.Path.{refl}
 use denote.Struct.Laws as LL
-use Rattle.laws.proofs.Flat.{boolf}
+use Rattle.laws.proofs.Flat.{Flat, boolf, structf}
 use Rattle.lent_walks.proofs.Parts.{offset}
 use Rattle.lent_walks.proofs.Places.{Field, struct, plain, f32f}
 use Rattle.registers.specs.declared.Voice.{Voice}
@@ -17,6 +17,22 @@ use Rattle.c_record.proofs.RecordChannel as channel′
 use Rattle.c_record.proofs.RecordChannel.Laws as channel-laws
 
 -- ---- of a record
+abbrev pub coref : Flat
+coref = structf core′.the-type core-laws.the-field-laws core-laws.the-field-plain
+
+abbrev pub whole-core : Field record′.the-type record-laws.the-laws (plain coref)
+whole-core = record {
+  number = 0;
+  offset = offset record-laws.mir 0;
+  there = refl;
+  of = λ x. x .core;
+  put = λ y x. record { core = y; queue = x .queue };
+  is = λ x. refl;
+  with-put = λ y x. refl;
+  ok = λ x are. are .0;
+  put-ok = λ y x y-ok are. (y-ok, are .1);
+}
+
 abbrev pub core : Field record′.the-type record-laws.the-laws (struct core′.the-type core-laws.the-laws)
 core = record {
   number = 0;

@@ -390,3 +390,6 @@ irq = part boolf (inside in-voice chip.irq)
 
 abbrev pub envelope : Part lent
 envelope = part chip.envelopef (inside (inside in-voice chip.in-generators) chip.envelope)
+
+abbrev pub core : Part lent
+core = part f.coref (inside (here lent) f.whole-core)

@@ -8,4 +8,5 @@ pub mod Poke
 pub mod Poked
 pub mod Shown
 pub mod Ring
+pub mod Buffer
 pub mod Lengths

@@ -51,11 +51,11 @@ use Rattle.lent_walks.proofs.Parts.{whole-val, IsOne, Part, kinds, held
 use Rattle.lent_walks.proofs.Shown.{first-share, second-share, third-share, three-shown, three-back, shows-three}
 
 -- the parts that are taken out, as the step's definition takes them
-abbrev parts-of : {K : Lent} (Ps : List (Part K)) → K .T .D → Arg (kinds Ps)
+abbrev pub parts-of : {K : Lent} (Ps : List (Part K)) → K .T .D → Arg (kinds Ps)
 parts-of [] h = tt
 parts-of (P ∷ Ps) h = (P .of h, parts-of Ps h)
 
-get-held : {K : Lent} (Ps : List (Part K)) (h : K .T .D) → get 0 tt (kinds Ps) (held Ps h) ≡ parts-of Ps h
+pub get-held : {K : Lent} (Ps : List (Part K)) (h : K .T .D) → get 0 tt (kinds Ps) (held Ps h) ≡ parts-of Ps h
 get-held [] h = refl
 get-held (P ∷ Ps) h = λ i. (P .of h, get-held Ps h i)
 

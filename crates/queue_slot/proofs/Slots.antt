@@ -11,13 +11,6 @@ use Rattle.queue.specs.declared.Write.{Write}
 use Rattle.queue.specs.Waiting.{pushed, ring}
 use Rattle.queue_slot.specs.Slot.{putAt}
 
--- the ring as a step is shown it, by each of its numbers: the same numbers
-abbrev pub shown : Queue → Queue
-shown q = ring (map (λ v. v) (q .stamps)) (map (λ v. v) (q .registers)) (map (λ v. v) (q .values)) (q .head) (q .count)
-
-pub same-ring : (q : Queue) → shown q ≡ q
-same-ring q = λ i. ring (map-same (q .stamps) i) (map-same (q .registers) i) (map-same (q .values) i) (q .head) (q .count)
-
 put-nowhere : (x : ℕ) (slots : List ℕ) → putAt 256 x (map (λ v. v) slots) ≡ slots
 unfolding putAt
 put-nowhere x slots = map-same slots

@@ -5,16 +5,17 @@ use lib.ListN.{length}
 use borrow.Author.Needs.{needs}
 use Rattle.envelope_wave.proofs.Entries.{made}
 use Rattle.queue.specs.Waiting.{ring}
+use Rattle.clocking_block.specs.Block.{chipWith}
 use Rattle.clocking_block.proofs.Filling.{Filling, filling-start, next-soon, all-soon, drained-queue, due-ok, filling-on, further, filled, filling-kept, filling-none}
 use Rattle.clocking_block.proofs.render.Statement.{statement}
 use Rattle.clocking_block.proofs.render.Tie as tie
 
 abbrev Inv-loop : tie.InvT-loop
-Inv-loop out₀ table ring₀ core₀ wave₀ head₀ count₀ gate₀ ticks₀ i₀ out core wave head count gate ticks i =
-    Filling table wave (record { core = core₀; queue = ring₀ }) core (ring (ring₀ .stamps) (ring₀ .registers) (ring₀ .values) head count) gate out₀ out ticks i
+Inv-loop stamps registers values out₀ place waiting table core₀ wave₀ head₀ count₀ gate₀ ticks₀ i₀ out core wave head count gate ticks i =
+    Filling table wave (chipWith core₀ (ring stamps registers values head₀ count₀)) core (ring stamps registers values head count) gate out₀ out ticks i
 
 abbrev μ-loop : tie.MeasureT-loop
-μ-loop out₀ table ring₀ core₀ wave₀ head₀ count₀ gate₀ ticks₀ i₀ out core wave head count gate ticks i = length out₀ - i
+μ-loop stamps registers values out₀ place waiting table core₀ wave₀ head₀ count₀ gate₀ ticks₀ i₀ out core wave head count gate ticks i = length out₀ - i
 
 level-table-requires : tie.Need-level-table-requires Inv-loop μ-loop
 level-table-requires c κs = search needs
@@ -23,43 +24,43 @@ wave-of-requires : tie.Need-wave-of-requires Inv-loop μ-loop
 wave-of-requires c κs = search needs
 
 loop-holds : tie.Need-loop-holds Inv-loop μ-loop
-loop-holds c = let pre = c .before .before .before .before .before .pre in filling-start (c .before .before .before .level-table .ensures) (c .wave-of .ensures) (pre .0 .0) (pre .0 .1) (pre .1 .0) (pre .1 .1)
+loop-holds c = let pre = c .before .before .before .pre in filling-start (c .before .level-table .ensures) (c .wave-of .ensures) (pre .0) (pre .1 .0) (pre .1 .1 .0) (pre .1 .1 .1)
 
 add-end : tie.Need-add-end Inv-loop μ-loop
 add-end c = record { fits = next-soon (c .before .before .loop .inv) (c .before .loop-test .taken) }
 
 drain-requires : tie.Need-drain-requires Inv-loop μ-loop
-drain-requires c κs = c .before .before .before .before .before .before .loop .inv .queue
+drain-requires c κs = c .before .before .loop .inv .queue
 
 wave-after-requires : tie.Need-wave-after-requires Inv-loop μ-loop
-wave-after-requires c κs = made _ (c .before .before .before .before .before .before .before .before .loop .inv .wave)
+wave-after-requires c κs = made _ (c .before .before .before .before .loop .inv .wave)
 
 next-due-requires : tie.Need-next-due-requires Inv-loop μ-loop
-next-due-requires c κs = drained-queue (c .before .before .before .before .before .before .before .before .before .before .before .loop .inv) (c .before .before .before .before .drain .ensures) .head
+next-due-requires c κs = drained-queue (c .before .before .before .before .before .loop .inv) (c .before .before .drain .ensures) .head
 
 run-words-requires : tie.Need-run-words-requires Inv-loop μ-loop
 run-words-requires c κs =
-    let l = c .before .before .before .before .before .before .before .before .before .before .before .before .before in
+    let l = c .before .before .before .before .before .before .before in
     let inv = l .before .loop .inv in
-    (due-ok inv (c .before .before .before .before .before .before .before .drain .ensures), (inv .table, (c .before .before .before .before .before .wave-after .ensures, ((l .loop-test .taken, omega (arith, inv .long, inv .room)), all-soon inv))))
+    (due-ok inv (c .before .before .before .before .before .drain .ensures), (inv .table, (c .before .before .before .wave-after .ensures, ((l .loop-test .taken, omega (arith, inv .long, inv .room)), all-soon inv))))
 
 add-ticks : tie.Need-add-ticks Inv-loop μ-loop
 add-ticks c =
-    let inv = c .before .before .before .before .before .before .before .before .before .before .before .before .before .before .before .before .before .before .before .loop .inv in
+    let inv = c .before .before .before .before .before .before .before .before .before .before .before .before .before .loop .inv in
     let u = c .before .before .before .before .run-words .ensures in
-    let more = further inv (c .before .before .before .before .before .before .before .before .before .before .before .before .drain .ensures) (c .before .before .before .before .before .before .before .next-due .ensures) u in
+    let more = further inv (c .before .before .before .before .before .before .before .before .before .before .drain .ensures) (c .before .before .before .before .before .before .before .next-due .ensures) u in
     omega (arith, inv .few, inv .place, inv .room, inv .long, u .room)
 
 loop-less : tie.Need-loop-less Inv-loop μ-loop
 loop-less c =
-    let inv = c .before .before .before .before .before .before .before .before .before .before .before .before .before .before .before .before .before .before .before .loop .inv in
+    let inv = c .before .before .before .before .before .before .before .before .before .before .before .before .before .loop .inv in
     let u = c .before .before .before .before .run-words .ensures in
     omega (arith, u .next, u .room, inv .long)
 
 loop-again : tie.Need-loop-again Inv-loop μ-loop
 loop-again c =
-    let inv = c .before .before .before .before .before .before .before .before .before .before .before .before .before .before .before .before .before .before .before .loop .inv in
-    filling-on inv (c .before .before .before .before .before .before .before .before .before .before .before .before .drain .ensures) (c .before .before .before .before .before .before .before .next-due .ensures) (c .before .before .before .before .run-words .ensures) (c .before .before .before .before .before .before .before .before .before .before .wave-after .ensures)
+    let inv = c .before .before .before .before .before .before .before .before .before .before .before .before .before .loop .inv in
+    filling-on inv (c .before .before .before .before .before .before .before .before .before .before .drain .ensures) (c .before .before .before .before .before .before .before .next-due .ensures) (c .before .before .before .before .run-words .ensures) (c .before .before .before .before .before .before .before .before .wave-after .ensures)
 
 kept-of-word-requires : tie.Need-kept-of-word-requires Inv-loop μ-loop
 kept-of-word-requires c κs = let inv = c .before .before .before .loop .inv in (inv .ok .voice .generators .envelope, inv .table)
