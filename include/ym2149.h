@@ -209,7 +209,7 @@ static_assert(sizeof(struct ym2149_played) == 24 && offsetof(struct ym2149_playe
 
 /* ---- Making. These write the record and do not look at what was there. */
 
-/* A chip at the default clocks, 2,000,000 and 44,100: A and B start high, C low, R7 holds 0x3F. Answers 0. */
+/* A chip at the default clocks, 2,000,000 and 250,000, one tick to a word: A and B start high, C low, R7 holds 0x3F. Answers 0. */
 uint8_t ym2149_new(struct ym2149 *chip);
 
 /* A chip at these clocks. Answers 1: master clock above 1,073,741,823. 2: sample rate 0. 3: sample rate above master / 8, rounded down.

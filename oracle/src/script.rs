@@ -13,8 +13,9 @@ use std::fmt::{Display, Write};
 
 /// A longer block prints its first and last word and a check of all.
 const WORDS_SHOWN: usize = 32;
-/// 01: "The default clocks are 2,000,000 and 44,100."
+/// 01: "The default clocks are 2,000,000 and" 250,000, by 02's request 07. The crate's own default rate stays 44,100.
 const DEFAULT_MASTER: u32 = 2_000_000;
+const DEFAULT_RATE: u32 = 250_000;
 
 /// One chip and what has been asked of it.
 pub struct Bench {
@@ -29,7 +30,7 @@ pub struct Bench {
 
 impl Default for Bench {
     fn default() -> Self {
-        let (chip, ring) = (Ym2149::new(), Ring::default());
+        let (chip, ring) = (default_chip(), Ring::default());
         Bench { chip, master: DEFAULT_MASTER, ring, calls: 0, words: 0, ticks: 0 }
     }
 }
@@ -128,7 +129,7 @@ impl Bench {
     }
 
     fn make_default(&mut self, refusal: u8) -> String {
-        self.chip = Ym2149::new();
+        self.chip = default_chip();
         self.master = DEFAULT_MASTER;
         self.ring = Ring::default();
         refusal.to_string()
@@ -206,6 +207,11 @@ impl Bench {
         write!(out, " accumulator={} stamp={}", chip.accumulator(), chip.cpu_cycle()).unwrap();
         writeln!(out, " start={} irq={}", chip.start(), chip.irq() as u8).unwrap();
     }
+}
+
+/// What `new` gives, a refused making leaves and a script begins on.
+fn default_chip() -> Ym2149 {
+    Ym2149::with_clocks(DEFAULT_MASTER, DEFAULT_RATE)
 }
 
 fn tone_text(tone: &ToneGenerator) -> String {

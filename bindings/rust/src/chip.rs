@@ -21,7 +21,7 @@ pub struct Word {
 
 /// Making.
 impl Chip {
-    /// At the default clocks, 2,000,000 and 44,100.
+    /// At the default clocks, 2,000,000 and 250,000: one tick to a word.
     pub fn new() -> Chip {
         let mut chip = Chip::unmade();
         unsafe { ym2149_new(&mut chip.record) };

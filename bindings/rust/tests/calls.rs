@@ -6,21 +6,38 @@ use ym2149_proved::{Chip, Record, Refusal, Word};
 
 const BUSY: [u8; 16] = [0x1c, 0xff, 0x7b, 0, 5, 0, 0xff, 0, 0x0f, 0x10, 0xff, 0x30, 0, 0xfe, 1, 2];
 
+/// A chip by name, so that no answer below hangs on the default clocks.
+fn chip() -> Chip {
+    Chip::with_clocks(2_000_000, 44_100).unwrap()
+}
+
 fn waiting_256() -> Chip {
-    let mut chip = Chip::new();
+    let mut chip = chip();
     assert!((0..256).all(|_| chip.write_port(2, 1) == Ok(())));
     chip
 }
 
 fn out_of_range() -> Chip {
-    let mut record = *Chip::new().record();
+    let mut record = *chip().record();
     record.core.selected = 16;
     Chip::from_record(record)
 }
 
 #[test]
-fn default_clocks_take_6_6_6_5_ticks() {
+fn default_clocks_take_a_tick_to_a_word() {
     let mut chip = Chip::new();
+    let clocks = chip.record().core.clocks;
+    assert_eq!((clocks.master, clocks.rate, clocks.internal, clocks.cycles), (2_000_000, 250_000, 250_000, 32));
+    assert_eq!(chip.compute_next_sample(), Ok(Word { word: 75, ticks: 1 }));
+    assert_eq!(chip.block(&mut [0; 4]), Ok(4));
+    assert_eq!((chip.record().core.accumulator, chip.record().core.start), (0, 160));
+    assert_eq!(chip.reset(), Ok(()));
+    assert_eq!((chip.record().core.clocks.rate, chip.record().core.start), (250_000, 0));
+}
+
+#[test]
+fn clocks_of_44100_take_6_6_6_5_ticks() {
+    let mut chip = chip();
     assert_eq!(chip.compute_next_sample(), Ok(Word { word: 75, ticks: 6 }));
     assert_eq!([0; 3].map(|_| chip.compute_next_sample().unwrap().ticks), [6, 6, 5]);
     assert_eq!(chip.record().core.accumulator, 14_300);
@@ -38,14 +55,16 @@ fn refused_clocks_give_their_number() {
 
 #[test]
 fn refused_clocks_leave_a_fresh_default_chip() {
-    let mut record = *Chip::with_clocks(2_000_000, 250_000).unwrap().record();
-    assert_eq!(unsafe { ym2149_with_clocks(&mut record, 2_000_000, 250_001) }, 3);
-    assert_eq!(Chip::from_record(record), Chip::new());
+    for (master, rate, no) in [(1_073_741_824, 0, 1), (2_000_000, 0, 2), (2_000_000, 250_001, 3)] {
+        let mut record = *chip().record();
+        assert_eq!(unsafe { ym2149_with_clocks(&mut record, master, rate) }, no);
+        assert_eq!(Chip::from_record(record), Chip::new());
+    }
 }
 
 #[test]
 fn bytes_are_masked_and_stored() {
-    let mut chip = Chip::new();
+    let mut chip = chip();
     assert_eq!(chip.load_registers(BUSY), Ok(()));
     assert_eq!(chip.dump_registers(), Ok([0x1c, 0x0f, 0x7b, 0, 5, 0, 0x1f, 0, 0x0f, 0x10, 0x1f, 0x30, 0, 0x0e, 0, 0]));
     assert_eq!(chip.write_register(8, 0xff), Ok(()));
@@ -55,7 +74,7 @@ fn bytes_are_masked_and_stored() {
 
 #[test]
 fn a_data_write_waits_until_the_flush() {
-    let mut chip = Chip::new();
+    let mut chip = chip();
     assert_eq!(chip.write_port(0, 14), Ok(()));
     assert_eq!(chip.read_port(0), Ok(0xff));
     assert_eq!((chip.write_port(0, 8), chip.write_port(2, 9)), (Ok(()), Ok(())));
@@ -75,7 +94,7 @@ fn write_257_is_refused() {
 
 #[test]
 fn stamps_500_then_100() {
-    let mut chip = Chip::new();
+    let mut chip = chip();
     for (stamp, register) in [(500, 8), (100, 9)] {
         assert_eq!(chip.set_cpu_cycle(stamp), Ok(()));
         assert_eq!(chip.cpu_cycle(), Ok(stamp));
@@ -87,7 +106,7 @@ fn stamps_500_then_100() {
 
 #[test]
 fn the_irq_ends_and_a_pending_channel_flips() {
-    let mut chip = Chip::new();
+    let mut chip = chip();
     let edges = chip.record().core.voice.generators.b.edges;
     assert_eq!((chip.set_timer_irq_state(true), chip.write_register(2, 1)), (Ok(()), Ok(())));
     assert!(chip.record().core.voice.irq && chip.record().core.voice.generators.b.pending);
@@ -97,7 +116,7 @@ fn the_irq_ends_and_a_pending_channel_flips() {
 
 #[test]
 fn the_envelope_restarts_at_minus_64() {
-    let mut chip = Chip::new();
+    let mut chip = chip();
     assert_eq!(chip.record().core.voice.generators.envelope.position, 0);
     assert_eq!(chip.trigger_envelope(), Ok(()));
     assert_eq!(chip.record().core.voice.generators.envelope.position, -64);
@@ -105,7 +124,7 @@ fn the_envelope_restarts_at_minus_64() {
 
 #[test]
 fn drums_and_mutes() {
-    let mut chip = Chip::new();
+    let mut chip = chip();
     assert_eq!((chip.set_channel_mute(1, true), chip.set_channel_mute(2, true)), (Ok(()), Ok(())));
     assert_eq!([0, 1, 2, 3, usize::MAX].map(|channel| chip.is_channel_muted(channel)), [Ok(false), Ok(true), Ok(true), Ok(false), Ok(false)]);
     assert_eq!(chip.set_drum_sample_override(0, Some(1.0)), Ok(()));
@@ -121,7 +140,7 @@ fn drums_and_mutes() {
 
 #[test]
 fn reset_keeps_mutes_and_the_noise_period() {
-    let mut chip = Chip::new();
+    let mut chip = chip();
     assert_eq!((chip.set_channel_mute(2, true), chip.write_register(6, 31)), (Ok(()), Ok(())));
     assert_eq!(chip.reset(), Ok(()));
     assert_eq!((chip.is_channel_muted(2), chip.read_register(6), chip.read_register(7)), (Ok(true), Ok(0), Ok(0x3f)));
@@ -179,7 +198,7 @@ impl Room {
     /// A new chip with a mark of the host's between some fields: of the clocks, before the generators, of tone A, of channel A.
     fn marked() -> Room {
         let mut room = Room([0; ROOM]);
-        assert_eq!(unsafe { ym2149_new(room.record()) }, 0);
+        assert_eq!(unsafe { ym2149_with_clocks(room.record(), 2_000_000, 44_100) }, 0);
         for gap in [12, 38, 49, 117] {
             unsafe { *room.record().cast::<u8>().add(gap) = 0xa5 };
         }

@@ -17,12 +17,12 @@ use Rattle.all_registers.specs.Reset.{voiceNew, voiceReset}
 unfoldable pub madeOf : Clocks → Chip
 madeOf clocks = atStart clocks voiceNew allQuiet
 
--- The default clocks are 2,000,000 and 44,100.
+-- The default clocks are 2,000,000 and, by 02's request 07, 250,000: one tick to a word.
 abbrev pub defaultMaster : ℕ
 defaultMaster = 2000000
 
 abbrev pub defaultRate : ℕ
-defaultRate = 44100
+defaultRate = 250000
 
 unfoldable pub fresh : Chip
 fresh = madeOf (clocksOf defaultMaster defaultRate)

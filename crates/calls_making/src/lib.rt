@@ -8,7 +8,7 @@ use three_channels::Channels;
 
 pub const DEFAULT_MASTER_CLOCK: u32 = 2_000_000;
 
-pub const DEFAULT_SAMPLE_RATE: u32 = 44_100;
+pub const DEFAULT_SAMPLE_RATE: u32 = 250_000;
 
 pub fn new() -> Chip
     ensures { λ r. ⌜ r ≡ fresh ⌝ }

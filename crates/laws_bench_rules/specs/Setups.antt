@@ -7,7 +7,7 @@ use Rattle.generators.specs.declared.Generators.{Generators}
 use Rattle.generators.specs.Generators.{tick}
 use Rattle.channel.specs.declared.Drum.the-variants.{Sample}
 use Rattle.chip.specs.declared.Chip.{Chip}
-use Rattle.calls_making.specs.Making.{fresh, resetCall}
+use Rattle.calls_making.specs.Making.{fresh, withClocks, resetCall}
 use Rattle.calls_registers.specs.Stored.{writeRegister}
 use Rattle.calls_channels.specs.ChannelCalls.{setChannelMute, setDrumSampleOverride}
 use Rattle.calls_words.specs.Blocks.{blocked}
@@ -27,6 +27,10 @@ envelopeAfter n c = ticks n (c .core .voice .generators) .envelope
 -- the ticks of the word that comes after n words
 abbrev pub ticksAfter : ℕ → Chip → ℕ
 ticksAfter n c = blocked 1 (blocked n c .chip) .answer .ticks
+
+-- a chip of the clocks that were the default ones before 02's request 07
+unfoldable pub at44100 : Chip
+at44100 = withClocks 2000000 44100 .chip
 
 -- a fresh chip after R13 = 8; its envelope steps at every tick
 unfoldable pub shape8 : Chip

@@ -13,7 +13,7 @@ use Rattle.calls_registers.specs.Stored.{readRegister}
 use Rattle.calls_words.specs.Blocks.{blocked, sampled}
 use Rattle.text_lines.specs.Bytes.{bytes}
 use Rattle.dump_played.specs.Whole.{printed}
-use Rattle.laws_bench_rules.specs.Setups.{noiseAfter, envelopeAfter, ticksAfter, shape8, drumAlone, resetAfter31}
+use Rattle.laws_bench_rules.specs.Setups.{noiseAfter, envelopeAfter, ticksAfter, at44100, shape8, drumAlone, resetAfter31}
 
 pub record Table : Type 0 where
   -- P seed 41, edges 0x3ff.
@@ -21,11 +21,11 @@ pub record Table : Type 0 where
   pub edges : (powerOnEdges ≡ 0x3ff) × (edgesOf (fresh .core .voice .generators) ≡ 0x3ff)
   -- P noise 1, 0x12000, 0x9000. A fresh chip's noise steps at ticks 1, 3, 5 and so on.
   pub noise : map (λ n. noiseAfter n fresh) (0 ∷ 1 ∷ 2 ∷ 3 ∷ []) ≡ 1 ∷ 0x12000 ∷ 0x12000 ∷ 0x9000 ∷ []
-  -- P default clocks: words take 6, 6, 6, 5 ticks; accumulator then 14,300.
-  pub ticks : map (λ n. ticksAfter n fresh) (0 ∷ 1 ∷ 2 ∷ 3 ∷ []) ≡ 6 ∷ 6 ∷ 6 ∷ 5 ∷ []
-  pub accumulator : blocked 4 fresh .chip .core .accumulator ≡ 14300
+  -- P default clocks: words take 6, 6, 6, 5 ticks; accumulator then 14,300. By 02's request 07 a case with 44,100 named.
+  pub ticks : map (λ n. ticksAfter n at44100) (0 ∷ 1 ∷ 2 ∷ 3 ∷ []) ≡ 6 ∷ 6 ∷ 6 ∷ 5 ∷ []
+  pub accumulator : blocked 4 at44100 .chip .core .accumulator ≡ 14300
   -- P fresh chip: first word 75.
-  pub first-word : sampled fresh .answer ≡ record { no = 0; word = 75; ticks = 6 }
+  pub first-word : sampled fresh .answer ≡ record { no = 0; word = 75; ticks = 1 }
   -- P the dump above.
   pub dump :
       printed (bytes "master=2000000\nrate=250000\nwords=4\nframes=1\nregs=020000000000003e0f0000000000\n")

@@ -27,7 +27,7 @@ use Rattle.clocks.proofs.Accepted.{accepts}
 use Rattle.chip.proofs.InRange.{InRange, core-runs}
 use Rattle.answers.specs.declared.Answered.{Answered}
 use Rattle.answers.specs.declared.Blocked.{Blocked}
-use Rattle.calls_making.specs.Making.{madeOf, fresh, withClocks, resetOf, resetCall}
+use Rattle.calls_making.specs.Making.{madeOf, defaultMaster, defaultRate, fresh, withClocks, resetOf, resetCall}
 use Rattle.calls_registers.specs.Stored.{writeRegister, loadRegisters}
 use Rattle.calls_ports.specs.Ports.{bit1Clear, stamped, writePort, writePortImmediate}
 use Rattle.calls_cycles.specs.Cycles.{setCpuCycle, syncSampleCycle, flushPendingWrites}
@@ -52,7 +52,7 @@ made-kept master rate e =
 
 pub fresh-kept : InRange fresh
 unfolding fresh clocksNo
-fresh-kept = made-kept 2000000 44100 refl
+fresh-kept = made-kept defaultMaster defaultRate refl
 
 pub with-clocks-kept : (master rate : ℕ) → InRange (withClocks master rate .chip)
 unfolding withClocks

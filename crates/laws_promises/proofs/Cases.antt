@@ -27,8 +27,9 @@ use Rattle.clocking_word.specs.Word.{drained, ranOf, mixedOf, wordOf}
 use Rattle.clocking_block.specs.Block.{afterWords, ticksOf}
 use Rattle.clocks.specs.Clocks.{clocksNo}
 use Rattle.voice_range.specs.Range.{bytesIn, toneIn, allOrNone, noiseIn, envelopeIn, generatorsIn, gatesIn, voiceIn}
+use Rattle.chip.specs.declared.Chip.{Chip}
 use Rattle.chip.specs.Range.{clocksIn, coreIn, chipIn}
-use Rattle.calls_making.specs.Making.{madeOf, fresh, withClocks, resetOf, resetCall}
+use Rattle.calls_making.specs.Making.{madeOf, withClocks, resetOf, resetCall}
 use Rattle.calls_ports.specs.Ports.{writePort}
 use Rattle.calls_cycles.specs.Cycles.{setCpuCycle, syncSampleCycle, flushPendingWrites}
 use Rattle.calls_words.specs.Blocks.{blocked, sampled}
@@ -37,8 +38,12 @@ use Rattle.laws_promises.specs.History.{Call, write-port, set-cpu-cycle,
 use Rattle.laws_promises.specs.Demand.{positionOf, reach, Holds}
 use Rattle.laws_promises.proofs.Demand.{demand-3}
 
+-- the chip that they begin on
+abbrev at44100 : Chip
+at44100 = withClocks 2000000 44100 .chip
+
 abbrev words : List Call → List Entry
-words calls = ledger calls fresh emptyLedger .words
+words calls = ledger calls at44100 emptyLedger .words
 
 -- each word's end, and how many writes it applies
 abbrev served : List Call → List (ℕ × ℕ)
@@ -50,23 +55,23 @@ three-words = block (0 ∷ 0 ∷ 0 ∷ []) ∷ []
 abbrev four-words : List Call
 four-words = block (0 ∷ 0 ∷ 0 ∷ 0 ∷ []) ∷ []
 
--- 01: "Stamps 500 then 100, default clocks: both applied by the third word (end 543)."
+-- 01: "Stamps 500 then 100, default clocks: both applied by the third word (end 543)." By 02's request 07 a case with 44,100 named.
 abbrev late-then-early : List Call
 late-then-early = set-cpu-cycle 500 ∷ write-port 2 1 ∷ set-cpu-cycle 100 ∷ write-port 2 2 ∷ []
 
 -- the demand at this history
-pub held : Holds 2000000 44100 (after late-then-early (withClocks 2000000 44100 .chip)) (ledger late-then-early (withClocks 2000000 44100 .chip) emptyLedger)
+pub held : Holds 2000000 44100 (after late-then-early at44100) (ledger late-then-early at44100 emptyLedger)
 unfolding clocksNo
 held = demand-3 2000000 44100 refl late-then-early
 
-pub cases : (map (λ (w : Entry). w .ticks) (words four-words) ≡ 6 ∷ 6 ∷ 6 ∷ 5 ∷ []) × (after four-words fresh .core .accumulator ≡ 14300)
+pub cases : (map (λ (w : Entry). w .ticks) (words four-words) ≡ 6 ∷ 6 ∷ 6 ∷ 5 ∷ []) × (after four-words at44100 .core .accumulator ≡ 14300)
     × (served (late-then-early ++ three-words) ≡ (181, 0) ∷ (362, 0) ∷ (543, 2) ∷ [])
     × (served (late-then-early ++ compute-next-sample ∷ sync-sample-cycle 0 ∷ compute-next-sample ∷ sync-sample-cycle 400 ∷ compute-next-sample ∷ [])
     ≡ (181, 0) ∷ (181, 0) ∷ (581, 2) ∷ [])
-    × (reach 1 (waiting (after late-then-early fresh .queue)) ≡ 500)
-    × (length (ledger (late-then-early ++ flush-pending-writes ∷ []) fresh emptyLedger .applied) ≡ 2)
-    × (ledger (late-then-early ++ reset ∷ compute-next-sample ∷ []) fresh emptyLedger .accepted ≡ [])
-    × (ledger (write-port 0 13 ∷ write-port 2 8 ∷ three-words) fresh emptyLedger .restarted ≡ true)
-    × (positionOf (after (write-port 0 13 ∷ write-port 2 8 ∷ four-words) fresh) ≡ negsuc 40)
-unfolding shapeEntry envelopeEntry toneSet toneStep toneTick registerStep outputBy noiseTick nextPosition envelopeTick rowPlace envelopeLevel tick edgesOf toneAt putTone tonesSet seeded powerOnEdges generatorsReset gatesFrom gateOf heard sounded levelUsed gatedLevel loudnessOf mixed pairAt tonePeriodSet noisePeriodSet gatesSet envelopePeriodSet shapeSet voiceSet masked applyRegister voiceReset writesFrom waiting due late appliedInOrder registerWrites push drain queueIn ticking ticked drained ranOf mixedOf wordOf afterWords ticksOf clocksNo clocksIn bytesIn toneIn allOrNone noiseIn envelopeIn generatorsIn gatesIn voiceIn coreIn chipIn madeOf fresh resetOf resetCall writePort setCpuCycle syncSampleCycle flushPendingWrites blockNumber blocked sampled answers after entries enters entered ledger reach
+    × (reach 1 (waiting (after late-then-early at44100 .queue)) ≡ 500)
+    × (length (ledger (late-then-early ++ flush-pending-writes ∷ []) at44100 emptyLedger .applied) ≡ 2)
+    × (ledger (late-then-early ++ reset ∷ compute-next-sample ∷ []) at44100 emptyLedger .accepted ≡ [])
+    × (ledger (write-port 0 13 ∷ write-port 2 8 ∷ three-words) at44100 emptyLedger .restarted ≡ true)
+    × (positionOf (after (write-port 0 13 ∷ write-port 2 8 ∷ four-words) at44100) ≡ negsuc 40)
+unfolding shapeEntry envelopeEntry toneSet toneStep toneTick registerStep outputBy noiseTick nextPosition envelopeTick rowPlace envelopeLevel tick edgesOf toneAt putTone tonesSet seeded powerOnEdges generatorsReset gatesFrom gateOf heard sounded levelUsed gatedLevel loudnessOf mixed pairAt tonePeriodSet noisePeriodSet gatesSet envelopePeriodSet shapeSet voiceSet masked applyRegister voiceReset writesFrom waiting due late appliedInOrder registerWrites push drain queueIn ticking ticked drained ranOf mixedOf wordOf afterWords ticksOf clocksNo clocksIn bytesIn toneIn allOrNone noiseIn envelopeIn generatorsIn gatesIn voiceIn coreIn chipIn madeOf withClocks resetOf resetCall writePort setCpuCycle syncSampleCycle flushPendingWrites blockNumber blocked sampled answers after entries enters entered ledger reach
 cases = (refl, refl, refl, refl, refl, refl, refl, refl, refl)

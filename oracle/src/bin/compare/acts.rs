@@ -340,10 +340,7 @@ impl Draw<'_> {
             1 => format!("mute {channel} {on}"),
             2 => format!("drum {channel} off"),
             3 => format!("drum {channel} {bits:08x}"),
-            _ => {
-                let (master, rate) = self.refused_clocks();
-                format!("new {master} {rate}")
-            }
+            _ => return self.refused_making(),
         };
         self.call(line);
     }

@@ -10,6 +10,8 @@ use oracle::script_cases::Case;
 /// Most clocks have a word of at most so many ticks, and slow ones of at most so many.
 const SOME_TICKS: u64 = 700;
 const MANY_TICKS: u64 = 26_843;
+/// The crate's default clocks: 5 or 6 ticks to a word.
+const SEVERAL_TICKS: (u64, u64) = (2_000_000, 44_100);
 /// A new chip has ticks for so many words at least, if its clock is not of the slowest.
 const SOME_WORDS: u64 = 24;
 
@@ -122,8 +124,8 @@ impl Draw<'_> {
     pub fn make(&mut self) {
         let (master, rate) = match self.random.below(24) {
             0 => return self.call("default".into()),
-            1..=2 => self.refused_clocks(),
-            3..=5 => (2_000_000, 44_100),
+            1..=2 => return self.refused_making(),
+            3..=5 => SEVERAL_TICKS,
             6..=8 => self.one_tick_clocks(),
             9..=10 => self.tiny_clocks(),
             11..=12 => self.extreme_clocks(),
@@ -177,7 +179,17 @@ impl Draw<'_> {
         (master, self.random.pick(&[near_one_tick, near_two_ticks, slow, 1, 1_000, 50_000_000]))
     }
 
-    pub fn refused_clocks(&mut self) -> (u64, u64) {
+    /// It leaves the default chip, of one tick to a word. Half of the scripts go on with several.
+    pub fn refused_making(&mut self) {
+        let (master, rate) = self.refused_clocks();
+        self.call(format!("new {master} {rate}"));
+        if self.random.below(2) == 0 {
+            let (master, rate) = SEVERAL_TICKS;
+            self.call(format!("new {master} {rate}"));
+        }
+    }
+
+    fn refused_clocks(&mut self) -> (u64, u64) {
         let master = self.random.spread(MASTER_MAX as u64);
         let high = self.random.within(MASTER_MAX as u64 + 1, u32::MAX as u64);
         let all = u32::MAX as u64;
