@@ -79,7 +79,7 @@ word-ticks c = ticked-runs _ _ _ _ _
 abbrev pub values : List Entry → List ℕ
 values ws = map (λ (w : Entry). w .value) ws
 
-entries-length : (n : ℕ) (c : Chip) → length (entries n c) ≡ n
+pub entries-length : (n : ℕ) (c : Chip) → length (entries n c) ≡ n
 unfolding entries
 entries-length zero c = refl
 entries-length (suc n) c = ap suc (entries-length n (afterOne c))
