@@ -24,7 +24,7 @@ use Rattle.laws_histories.specs.Histories.{NoReset}
 -- the clocks stay, whatever is called
 deed-clocks : {x : Call} {c d : Chip} {l m : Ledger} → InRange c → Deed x c d l m → d .core .clocks ≡ c .core .clocks
 unfolding resetOf
-deed-clocks h (rests s) = s .clocks
+deed-clocks h (rests s _) = s .clocks
 deed-clocks h (flushes _ e _) = rw e
 deed-clocks h (begins _ e _) = rw e
 deed-clocks {x} {c} h (plays n e _) = rw e (rendered n c h .clocks)
@@ -91,7 +91,7 @@ module _ {begun c : Chip} {l : Ledger} (k : Since begun c l) where
       }
 
   deed-since : {x : Call} {d : Chip} {m : Ledger} → NoReset x → InRange d → Deed x c d l m → Since begun d m
-  deed-since p r (rests s) = still-since r s
+  deed-since p r (rests s _) = still-since r s
   deed-since p r (flushes _ e f) = rw (e, f) (flush-since (rw e at r))
   deed-since p r (begins e _ _) = absurd (p e)
   deed-since p r (plays n e f) = rw (e, f) (words-since (rendered n c (k .range)))

@@ -43,7 +43,7 @@ words-once (suc n) c h e =
 -- each call, and any calls
 step-once : {x : Call} {c d : Chip} {l m : Ledger} → InRange c → AtClock c → All TakesOneTick (l .words) → Deed x c d l m → All TakesOneTick (m .words)
 unfolding enters
-step-once h e o (rests s) = rw (s .words) o
+step-once h e o (rests s _) = rw (s .words) o
 step-once h e o (flushes _ _ f) = rw f o
 step-once h e o (begins _ _ f) = rw f tt
 step-once {x} {c} {d} {l} {m} h e o (plays n _ f) = rw f (all-append TakesOneTick (l .words) (entries n c) o (words-once n c h e))

@@ -29,7 +29,7 @@ reset-circles c = reset-sounds (c .core .voice) .1
 
 module _ {c : Chip} {l : Ledger} (h : InRange c) (k : Circling c l) where
   deed-circles : {x : Call} {d : Chip} {m : Ledger} → Deed x c d l m → Circling d m
-  deed-circles (rests s) e = let (p, q) = s .circles e in q (k p)
+  deed-circles (rests s _) e = let (p, q) = s .circles e in q (k p)
   deed-circles (flushes _ f g) e = rw f (flush-circles c l k (rw g at e))
   deed-circles (begins _ f g) e = rw f (reset-circles c)
   deed-circles (plays n f g) e =

@@ -49,8 +49,12 @@ pub record Still (c d : Chip) (l m : Ledger) : Type 0 where
   pub agrees : Agrees (noiseOf c) → Agrees (noiseOf d)
   pub circles : m .restarted ≡ false → (l .restarted ≡ false) × (FromZero c → FromZero d)
 
+-- the next word's start stays, unless the call is a sync
+abbrev StartStays : Call → Chip → Chip → Type 0
+StartStays x c d = ((cycle : ℕ) → x ≡ History.sync-sample-cycle cycle → ⊥) → d .core .start ≡ c .core .start
+
 pub data Deed (x : Call) (c d : Chip) (l m : Ledger) : Type 0 where
-  rests : Still c d l m → Deed x c d l m
+  rests : Still c d l m → StartStays x c d → Deed x c d l m
   flushes : x ≡ History.flush-pending-writes → d ≡ flushed c → m ≡ enters History.flush-pending-writes c l → Deed x c d l m
   begins : x ≡ History.reset → d ≡ resetOf c → m ≡ enters History.reset c l → Deed x c d l m
   plays : (n : ℕ) → d ≡ afterWords n c → m ≡ renders (entries n c) l → Deed x c d l m
@@ -80,7 +84,7 @@ module _ (x : Call) (c : Chip) (l : Ledger) where
         applied = refl;
         agrees = λ a. a;
         circles = λ e. (e, λ a. a);
-      })
+      }) (λ _. refl)
 
   -- a call that only reads
   reads : (number : ℕ) → Comes l (answered number c)
@@ -92,8 +96,8 @@ module _ (x : Call) (c : Chip) (l : Ledger) where
 
   -- a change that neither the queue nor the clocks see
   turned : (d : Chip) → d .core .clocks ≡ c .core .clocks → d .core .accumulator ≡ c .core .accumulator → d .queue ≡ c .queue
-      → {restart : Bool} → Leaves restart (c .core .voice) (d .core .voice) → Deed x c d l (restarts restart l)
-  turned d e f g {restart} s =
+      → StartStays x c d → {restart : Bool} → Leaves restart (c .core .voice) (d .core .voice) → Deed x c d l (restarts restart l)
+  turned d e f g start {restart} s =
       rests (record {
         clocks = e;
         accumulator = f;
@@ -104,20 +108,20 @@ module _ (x : Call) (c : Chip) (l : Ledger) where
         applied = refl;
         agrees = leaves-agrees s;
         circles = λ e. let (p, q) = neither restart (l .restarted) e in (q, leaves-circles s p);
-      })
+      }) start
 
   voiced : {restart : Bool} {v : Voice} → Leaves restart (c .core .voice) v → Deed x c (withVoice v c) l (restarts restart l)
-  voiced s = turned _ refl refl refl s
+  voiced s = turned _ refl refl refl (λ _. refl) s
 
   -- a change of neither voice nor queue
   aside : (d : Chip) → d .core .clocks ≡ c .core .clocks → d .core .accumulator ≡ c .core .accumulator → d .queue ≡ c .queue
-      → d .core .voice ≡ c .core .voice → Deed x c d l l
-  aside d e f g v = turned d e f g (same-leaves v)
+      → d .core .voice ≡ c .core .voice → StartStays x c d → Deed x c d l l
+  aside d e f g v start = turned d e f g start (same-leaves v)
 
   -- mutes and drums
   channelled : (channel : ℕ) (channels : Channels) → Comes l (forChannel channel channels c)
   channelled channel channels =
-      tested l _ (by-le (Comes l) 3 channel (λ _. nothing) (λ _. aside (withChannels channels c) refl refl refl refl))
+      tested l _ (by-le (Comes l) 3 channel (λ _. nothing) (λ _. aside (withChannels channels c) refl refl refl refl (λ _. refl)))
 
   -- a port write: it selects, or it queues what there is room for
   ported : (select : Bool) (value : ℕ) → InRange c
@@ -135,7 +139,7 @@ module _ (x : Call) (c : Chip) (l : Ledger) where
         applied = refl;
         agrees = λ a. a;
         circles = λ e. (e, λ a. a);
-      })
+      }) (λ _. refl)
   ported false value h =
       let write = stamped value c in
       by-le (λ (p : Pushed). Comes (accepts (write ∷ []) l) (queued c p)) 256 (c .queue .count) (λ _. nothing)
@@ -149,14 +153,14 @@ module _ (x : Call) (c : Chip) (l : Ledger) where
         applied = refl;
         agrees = λ a. a;
         circles = λ e. (e, λ a. a);
-      }))
+      }) (λ _. refl))
 
   immediate : (select : Bool) (value : ℕ)
       → Comes (restarts (restartIn (cond select [] (stamped value c ∷ []))) l)
       (cond select (answered accepted (withSelection (value % 16) c))
       (answered accepted (onVoice (applyRegister (c .core .selected) value) c)))
   unfolding appliedInOrder registerWrites
-  immediate true value = aside (withSelection (value % 16) c) refl refl refl refl
+  immediate true value = aside (withSelection (value % 16) c) refl refl refl refl (λ _. refl)
   immediate false value = voiced (all-leave (stamped value c ∷ []) (c .core .voice))
 
   played : (n : ℕ) → Comes (renders (entries n c) l) (answered (blocked n c .answer .no) (blocked n c .chip))
@@ -178,8 +182,8 @@ did (History.write-register register value) c l h = tested _ c l _ _ (voiced _ c
 did (History.load-registers bytes) c l h = tested _ c l _ _ (voiced _ c l (in-order-leaves _ (c .core .voice)))
 did (History.write-port port value) c l h = tested _ c l _ _ (ported _ c l (bit1Clear port) value h)
 did (History.write-port-immediate port value) c l h = tested _ c l _ _ (immediate _ c l (bit1Clear port) value)
-did (History.set-cpu-cycle cycle) c l h = tested _ c l _ _ (aside _ c l (withTimes cycle (c .core .start) c) refl refl refl refl)
-did (History.sync-sample-cycle cycle) c l h = tested _ c l _ _ (aside _ c l (withTimes cycle cycle c) refl refl refl refl)
+did (History.set-cpu-cycle cycle) c l h = tested _ c l _ _ (aside _ c l (withTimes cycle (c .core .start) c) refl refl refl refl (λ _. refl))
+did (History.sync-sample-cycle cycle) c l h = tested _ c l _ _ (aside _ c l (withTimes cycle cycle c) refl refl refl refl (λ p. absurd (p cycle refl)))
 did History.flush-pending-writes c l h = tested _ c l _ _ (flushes refl refl refl)
 did (History.set-timer-irq-state on) c l h = tested _ c l _ _ (voiced _ c l (irq-leaves on (c .core .voice)))
 did (History.inside-timer-irq inside) c l h = tested _ c l _ _ (voiced _ c l (irq-leaves inside (c .core .voice)))

@@ -45,7 +45,7 @@ record Runs (first : List Write) (d : Chip) (l m : Ledger) : Type 0 where
   course : Course ws first (waiting (d .queue))
 
 deed-runs : {x : Call} {c d : Chip} {l m : Ledger} → Plain x → InRange c → Deed x c d l m → Runs (waiting (c .queue)) d l m
-deed-runs {x} {c} {d} {l} {m} p h (rests s) = record { ws = []; all = s .words ∙ sym (append-nil (l .words)); course = (s .new, s .waits) }
+deed-runs {x} {c} {d} {l} {m} p h (rests s _) = record { ws = []; all = s .words ∙ sym (append-nil (l .words)); course = (s .new, s .waits) }
 deed-runs p h (flushes e _ _) = absurd (p .0 e)
 deed-runs p h (begins e _ _) = absurd (p .1 e)
 deed-runs {x} {c} {d} {l} {m} p h (plays n e f) =

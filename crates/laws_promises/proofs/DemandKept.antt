@@ -116,7 +116,7 @@ module _ {master rate : ℕ} {c : Chip} {l : Ledger} (k : Keeps master rate c l)
       }
 
   deed-kept : {x : Call} {d : Chip} {m : Ledger} → InRange d → Deed x c d l m → Keeps master rate d m
-  deed-kept r (rests s) = still-kept r s
+  deed-kept r (rests s _) = still-kept r s
   deed-kept r (flushes _ e f) = rw (e, f) (flush-kept (rw e at r))
   deed-kept r (begins _ e f) = rw (e, f) (reset-kept (rw e at r))
   deed-kept r (plays n e f) = rw (e, f) (words-kept (rendered n c (k .range)))
