@@ -1,13 +1,14 @@
 /* The proved YM2149 for C and C++ on x86-64 Linux. `rt staticlib c_interface` writes the library, target/staticlib/libc_interface.a.
- * The comments are sentences of document 01, the exact rules; what the calls of crates/c_interface promise is said in definitions of them.
+ * The comments are sentences of document 01, the exact rules, as document 02 amends them; what the calls of crates/c_interface promise is said
+ * in definitions of them.
  *
  * The host owns the record `struct ym2149` and lends it to each call, which reads the chip from it and leaves the new state there. Every call
- * answers one of the numbers below. Every call but the two that make a chip tests the record first (22). A refused call changes no byte of
+ * answers one of the numbers below. Every call but the three that make a chip tests the record first (22). A refused call changes no byte of
  * the record nor of the buffer, and its other answers are 0 or no; a refused making leaves a fresh default chip.
  *
  * What the host owes:
- * - The record is set to zeros before it is first lent (`struct ym2149 chip = {0};`), and then made by ym2149_new or ym2149_with_clocks. Zeros
- *   are out of range: any other call on them answers 22.
+ * - The record is set to zeros before it is first lent (`struct ym2149 chip = {0};`), and then made by ym2149_new, ym2149_with_clocks or
+ *   ym2149_with_variant. Zeros are out of range: any other call on them answers 22.
  * - A bool of the record or of an argument holds 0 or 1.
  * - The record and a block's buffer do not overlap, each is there in its whole length, and nobody else touches them during a call.
  * The host may change fields between calls: the test of the next call says whether the record is one. A copied record is a chip of its own.
@@ -24,7 +25,7 @@
 extern "C" {
 #endif
 
-/* Numbers a call can answer. 22 is checked before all else; then the order is 1, 2, 3; and 5, 6. */
+/* Numbers a call can answer. 22 is checked before all else; then the order is 1, 2, 3, 13; and 5, 6. */
 enum ym2149_number {
     YM2149_ACCEPTED = 0,
     YM2149_MASTER_TOO_HIGH = 1,      /* master clock above 1,073,741,823 */
@@ -39,6 +40,7 @@ enum ym2149_number {
     YM2149_SIZE_OUT_OF_RANGE = 9,    /* `words` or `frames` out of range */
     YM2149_BYTES_AFTER_THE_END = 10, /* bytes after the last line due */
     YM2149_DUMP_TOO_LONG = 11,       /* dump longer than 65,536 bytes */
+    YM2149_NO_SUCH_VARIANT = 13,     /* variant above 2 */
     YM2149_OUT_OF_RANGE = 22         /* a handed-in chip record out of range */
 };
 
@@ -112,6 +114,7 @@ struct ym2149_core {
     struct ym2149_voice voice;
     struct ym2149_channel a, b, c;
     uint8_t selected;     /* to 15 */
+    uint8_t variant;      /* to 2; ym2149_with_variant says what they are */
     uint32_t accumulator; /* below the rate */
     uint64_t stamp;       /* of later writes */
     uint64_t start;       /* the next word's */
@@ -194,8 +197,9 @@ static_assert(sizeof(struct ym2149_drum) == 8 && offsetof(struct ym2149_drum, sa
 static_assert(sizeof(struct ym2149_channel) == 20 && offsetof(struct ym2149_channel, drum) == 4, "struct ym2149_channel");
 static_assert(offsetof(struct ym2149_core, voice) == 24 && offsetof(struct ym2149_core, a) == 116, "struct ym2149_core");
 static_assert(offsetof(struct ym2149_core, b) == 136 && offsetof(struct ym2149_core, c) == 156, "struct ym2149_core");
-static_assert(offsetof(struct ym2149_core, selected) == 176 && offsetof(struct ym2149_core, accumulator) == 180, "struct ym2149_core");
-static_assert(sizeof(struct ym2149_core) == 200 && offsetof(struct ym2149_core, stamp) == 184, "struct ym2149_core");
+static_assert(offsetof(struct ym2149_core, selected) == 176 && offsetof(struct ym2149_core, variant) == 177, "struct ym2149_core");
+static_assert(offsetof(struct ym2149_core, accumulator) == 180 && offsetof(struct ym2149_core, stamp) == 184, "struct ym2149_core");
+static_assert(sizeof(struct ym2149_core) == 200 && offsetof(struct ym2149_core, start) == 192, "struct ym2149_core");
 static_assert(sizeof(struct ym2149_queue) == 2576 && offsetof(struct ym2149_queue, head) == 2560, "struct ym2149_queue");
 static_assert(sizeof(struct ym2149) == 2776 && offsetof(struct ym2149, queue) == 200, "struct ym2149");
 static_assert(sizeof(struct ym2149_registers) == 16 && sizeof(struct ym2149_byte) == 2, "struct ym2149_registers, struct ym2149_byte");
@@ -209,18 +213,25 @@ static_assert(sizeof(struct ym2149_played) == 24 && offsetof(struct ym2149_playe
 
 /* ---- Making. These write the record and do not look at what was there. */
 
-/* A chip at the default clocks, 2,000,000 and 250,000, one tick to a word: A and B start high, C low, R7 holds 0x3F. Answers 0. */
+/* A chip of variant 0 at the default clocks, 2,000,000 and 250,000, one tick to a word: A and B start high, C low, R7 holds 0x3F.
+ * Answers 0. */
 uint8_t ym2149_new(struct ym2149 *chip);
 
-/* A chip at these clocks. Answers 1: master clock above 1,073,741,823. 2: sample rate 0. 3: sample rate above master / 8, rounded down.
- * Refused, the record is a fresh default chip. */
+/* A chip of variant 0 at these clocks. Answers 1: master clock above 1,073,741,823. 2: sample rate 0. 3: sample rate above master / 8,
+ * rounded down. Refused, the record is a fresh default chip. */
 uint8_t ym2149_with_clocks(struct ym2149 *chip, uint32_t master, uint32_t rate);
+
+/* A chip of this variant at these clocks. 0, the crate's; 1, the full-scale part: a fixed volume v uses level 2v + 1 for v from 1 to 15 and 0
+ * for 0; 2, the 16-step sister part, where an envelope level is used with its lowest bit cleared and fixed levels stay 2v. No later call
+ * changes it. Answers 1, 2, 3 as above, and after them 13: variant above 2. Refused, the record is a fresh default chip, of variant 0. */
+uint8_t ym2149_with_variant(struct ym2149 *chip, uint32_t master, uint32_t rate, uint8_t variant);
 
 /* ---- Calls that change the chip. Each answers 0, or 22 and then nothing changes; other numbers are said. */
 
 /* Reset sets tone counters and periods to 0, clears pending flips, sets noise counter 0, register 1, output 0, half-tick off; envelope
  * counter, position and shape offset to 0; drums off, channel outputs 0.0; registers 0 and then 0x3F to R7; selection, accumulator, stamp,
- * the next word's start and IRQ flag to 0; queue empty. It keeps noise period, envelope period, mutes and each channel's last amplitude. */
+ * the next word's start and IRQ flag to 0; queue empty. It keeps noise period, envelope period, mutes, each channel's last amplitude and the
+ * variant. */
 uint8_t ym2149_reset(struct ym2149 *chip);
 
 /* Stores the byte, masked, at once: 0..5 set that channel's 12-bit period, and mark a pending flip if the period is now at most 1 and the IRQ

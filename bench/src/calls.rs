@@ -94,7 +94,7 @@ impl Work for Burst {
     }
 
     fn run<S: Side>(&self, answers: &mut [u16]) -> (f64, S) {
-        let mut chip = S::loaded(self.rate, &BUSY);
+        let mut chip = S::loaded(0, self.rate, &BUSY);
         (0..self.waiting).for_each(|_| chip.queue(LATER, 8, 1));
         let (spent, ()) = timed(|| self.call.make(&mut chip, answers));
         (spent / CALLS as f64, chip)
@@ -119,7 +119,7 @@ impl Work for Filling {
 
     /// The rings have been full before: the crate's has its memory by then.
     fn run<S: Side>(&self, _: &mut [u16]) -> (f64, S) {
-        let mut chips = vec![S::loaded(Filling::RATE, &BUSY); CHIPS];
+        let mut chips = vec![S::loaded(0, Filling::RATE, &BUSY); CHIPS];
         chips.iter_mut().for_each(Filling::fill);
         chips.iter_mut().for_each(S::flush);
         let (spent, ()) = timed(|| chips.iter_mut().for_each(Filling::fill));

@@ -5,7 +5,8 @@ use oracle::chip::Ym2149;
 
 // A call by itself stays a call, as ours is one into a library.
 impl Side for Ym2149 {
-    fn loaded(rate: u32, registers: &[u8; 16]) -> Ym2149 {
+    fn loaded(variant: u8, rate: u32, registers: &[u8; 16]) -> Ym2149 {
+        assert_eq!(variant, 0, "the crate has no other part");
         let mut chip = Ym2149::with_clocks(MASTER, rate);
         chip.load_registers(registers);
         chip

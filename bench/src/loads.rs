@@ -1,9 +1,10 @@
 //! Words: blocks of a chip that is left alone, and of one whose registers are written.
 
-use crate::measure::{Work, timed};
+use crate::measure::{Times, Work, timed};
 use crate::side::{BUSY, MASTER, RING, SILENT, Side, cycles_of_a_word};
 use crate::table::{Bar, Label, PLAIN, Table};
 use std::hint::black_box;
+use ym2149_proved::Chip;
 
 /// At few words a second, which are ticks and little else.
 const SLOW_BAR: f64 = if cfg!(target_arch = "aarch64") { 1.15 } else { 1.25 };
@@ -11,6 +12,7 @@ const SLOW_BAR: f64 = if cfg!(target_arch = "aarch64") { 1.15 } else { 1.25 };
 const BUSY_BARS: [(u32, f64); 4] = [(250_000, 0.75), (44_100, 0.85), (1_000, SLOW_BAR), (10, SLOW_BAR)];
 const SILENT_BARS: [(u32, f64); 4] = [(250_000, 0.8), (44_100, 0.85), (1_000, 1.0), (10, 1.0)];
 const DUE_BAR: Bar = Bar::Ratio(1.15);
+const VARIANT_BAR: Bar = Bar::Ratio(1.02);
 
 /// Registers that are written in turn.
 type Written = &'static [u8];
@@ -58,6 +60,7 @@ impl Load {
 
 struct Play {
     load: Load,
+    variant: u8,
     rate: u32,
     block: usize,
     count: usize,
@@ -67,7 +70,11 @@ impl Play {
     /// Enough blocks for about 2,000,000 ticks.
     fn new(load: Load, rate: u32, block: usize) -> Play {
         let ticks = (MASTER / 8 / rate) as usize;
-        Play { load, rate, block, count: (2_000_000 / (ticks * block)).clamp(1, load.most_blocks()) }
+        Play { load, variant: 0, rate, block, count: (2_000_000 / (ticks * block)).clamp(1, load.most_blocks()) }
+    }
+
+    fn of_variant(self, variant: u8) -> Play {
+        Play { variant, ..self }
     }
 
     fn label(&self) -> Label {
@@ -81,7 +88,7 @@ impl Play {
 
     /// A busy chip with one write for every word of a block.
     fn filled<S: Side>(&self) -> S {
-        let mut chip = S::loaded(self.rate, &BUSY);
+        let mut chip = S::loaded(self.variant, self.rate, &BUSY);
         chip.fill(self.load.written(), cycles_of_a_word(self.rate));
         chip
     }
@@ -89,7 +96,7 @@ impl Play {
     /// Making the chip is timed too.
     fn undisturbed<S: Side>(&self, registers: &[u8; 16], out: &mut [u16]) -> (f64, S) {
         timed(|| {
-            let mut chip = S::loaded(self.rate, registers);
+            let mut chip = S::loaded(self.variant, self.rate, registers);
             (0..self.count).for_each(|_| chip.block(black_box(out)));
             chip
         })
@@ -157,9 +164,27 @@ fn ports(table: &mut Table) {
     }
 }
 
+/// A variant beside variant 0, both ours: what a variant means is worked out once for a block, so it costs nothing.
+fn variants(table: &mut Table) {
+    for (load, name, block) in [(Load::Busy, "busy", 4096), (Load::Due(VOLUMES), "due R8..R10", RING)] {
+        for rate in [250_000, 44_100] {
+            for variant in [1, 2] {
+                let label = Label { load: "variant", what: format!("{variant} beside 0, {name}"), rate, block: Some(block) };
+                let (play, plain) = (Play::new(load, rate, block).of_variant(variant), Play::new(load, rate, block));
+                let mut out = vec![0; block];
+                let mut spent = move |play: &Play| play.run::<Chip>(&mut out).0;
+                table.measured(label, || Times { ours: spent(&play), theirs: spent(&plain) }, VARIANT_BAR);
+            }
+        }
+    }
+}
+
 pub fn lines(table: &mut Table) {
     blocks(table, Load::Busy, BUSY_BARS);
     blocks(table, Load::Silent, SILENT_BARS);
     due(table);
     ports(table);
+    if PLAIN {
+        variants(table);
+    }
 }

@@ -54,29 +54,36 @@ pub fn timed<T>(work: impl FnOnce() -> T) -> (f64, T) {
     (clock() - begun, given)
 }
 
-/// The best of several runs, ours and the crate's in turn. Each two must leave the same answers and the same chip.
-fn best(work: &impl Work) -> Times {
-    let (mut our_answers, mut their_answers) = (vec![0; work.answers()], vec![0; work.answers()]);
+/// The best of several runs, for each side.
+fn best(run: &mut impl FnMut() -> Times) -> Times {
     let mut times = Times { ours: f64::MAX, theirs: f64::MAX };
     let begun = clock();
     let mut runs = 0;
     while runs < 7 || (runs < 60 && clock() - begun < 0.7e9) {
-        let (ours, our_chip) = work.run::<Chip>(&mut our_answers);
-        let (theirs, their_chip) = work.run::<Ym2149>(&mut their_answers);
-        assert!(our_answers == their_answers, "the two sides gave different answers");
-        assert_eq!(Seen::of(our_chip), Seen::of(their_chip), "the two sides left different chips");
-        times = times.or_less(Times { ours, theirs });
+        times = times.or_less(run());
         runs += 1;
     }
     times
 }
 
-/// Work that is not within its bar is measured twice more, and the best of all counts, for both sides: a neighbour may have been loud.
-pub fn held(work: &impl Work, within: impl Fn(Times) -> bool) -> Times {
-    let mut times = best(work);
+/// A run of ours and one of the crate's. The two must leave the same answers and the same chip.
+pub fn beside_the_crate(work: &impl Work) -> impl FnMut() -> Times {
+    let (mut our_answers, mut their_answers) = (vec![0; work.answers()], vec![0; work.answers()]);
+    move || {
+        let (ours, our_chip) = work.run::<Chip>(&mut our_answers);
+        let (theirs, their_chip) = work.run::<Ym2149>(&mut their_answers);
+        assert!(our_answers == their_answers, "the two sides gave different answers");
+        assert_eq!(Seen::of(our_chip), Seen::of(their_chip), "the two sides left different chips");
+        Times { ours, theirs }
+    }
+}
+
+/// What is not within its bar is measured twice more, and the best of all counts, for both sides: a neighbour may have been loud.
+pub fn held(mut run: impl FnMut() -> Times, within: impl Fn(Times) -> bool) -> Times {
+    let mut times = best(&mut run);
     for _ in 0..2 {
         if !within(times) {
-            times = times.or_less(best(work));
+            times = times.or_less(best(&mut run));
         }
     }
     times

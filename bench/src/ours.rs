@@ -4,8 +4,8 @@ use crate::side::{MASTER, Side};
 use ym2149_proved::Chip;
 
 impl Side for Chip {
-    fn loaded(rate: u32, registers: &[u8; 16]) -> Chip {
-        let mut chip = Chip::with_clocks(MASTER, rate).unwrap();
+    fn loaded(variant: u8, rate: u32, registers: &[u8; 16]) -> Chip {
+        let mut chip = Chip::with_variant(MASTER, rate, variant).unwrap();
         chip.load_registers(*registers).unwrap();
         chip
     }

@@ -10,7 +10,8 @@ pub const BUSY: [u8; 16] = [0x1c, 0x01, 0x7b, 0x00, 0x05, 0x00, 0x07, 0x00, 0x0f
 pub const SILENT: [u8; 16] = [0, 0, 0, 0, 0, 0, 0, 0x3f, 0, 0, 0, 0, 0, 0, 0, 0];
 
 pub trait Side: Clone {
-    fn loaded(rate: u32, registers: &[u8; 16]) -> Self;
+    /// A chip of a variant, of which the crate has 0 alone.
+    fn loaded(variant: u8, rate: u32, registers: &[u8; 16]) -> Self;
 
     fn set_cycle(&mut self, cycle: u64);
     fn select(&mut self, register: u8);

@@ -1,6 +1,6 @@
 //! The table: a line to each work that is wanted, and the bar that the line is held to.
 
-use crate::measure::{Times, Work, held};
+use crate::measure::{Times, Work, beside_the_crate, held};
 
 /// Whether this build is the crate's plain one, for the ratios, or the oracle, for its last column.
 pub const PLAIN: bool = cfg!(feature = "plain");
@@ -69,13 +69,18 @@ impl Table {
         self.wanted.is_empty() || self.wanted.iter().any(|word| word == label.load || *word == label.rate.to_string())
     }
 
-    /// Measures the work and prints its line, if it is wanted: our nanoseconds. The oracle's build holds nothing to a bar.
+    /// Measures the work and prints its line, if it is wanted: our nanoseconds.
     pub fn line(&mut self, label: Label, work: &impl Work, bar: Bar) -> Option<f64> {
+        self.measured(label, beside_the_crate(work), bar)
+    }
+
+    /// The same of any two sides that a run times in turn. The oracle's build holds nothing to a bar.
+    pub fn measured(&mut self, label: Label, run: impl FnMut() -> Times, bar: Bar) -> Option<f64> {
         if !self.wants(&label) {
             return None;
         }
         let bar = if PLAIN { bar } else { Bar::None };
-        let times = held(work, |times| bar.holds(times));
+        let times = held(run, |times| bar.holds(times));
         self.lines += 1;
         self.missed += !bar.holds(times) as usize;
         print(&label, times, bar);

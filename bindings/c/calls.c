@@ -26,7 +26,7 @@ static struct ym2149 made(void)
 static void expect_default(const struct ym2149 *chip)
 {
     EXPECT(chip->core.clocks.master == 2000000 && chip->core.clocks.rate == 250000);
-    EXPECT(chip->core.clocks.internal == 250000 && chip->core.clocks.cycles == 32);
+    EXPECT(chip->core.clocks.internal == 250000 && chip->core.clocks.cycles == 32 && chip->core.variant == 0);
     EXPECT(chip->core.accumulator == 0 && chip->core.start == 0);
 }
 
@@ -47,6 +47,40 @@ static void making(void)
 
     struct ym2149 zeros = {0};
     EXPECT(ym2149_reset(&zeros) == YM2149_OUT_OF_RANGE);
+}
+
+/* Variants 0, 1 and 2 at 01's dump, and at an envelope that rises from level 1 on. */
+static void variants(void)
+{
+    static const struct ym2149_registers dump = {{0x02, 0, 0, 0, 0, 0, 0, 0x3e, 0x0f}};
+    static const struct ym2149_registers rising = {{0x02, 0, 0, 0, 0, 0, 0, 0x3f, 0x1f, 0, 0, 0, 0, 0x0d}};
+    static const uint16_t dumped[3] = {9234, 10972, 9234}, risen[3][3] = {{110, 121, 135}, {110, 121, 135}, {100, 121, 121}};
+    struct ym2149 chip = {0};
+    uint16_t out[3];
+    for (uint8_t variant = 0; variant < 3; variant++) {
+        EXPECT(ym2149_with_variant(&chip, 2000000, 250000, variant) == YM2149_ACCEPTED && chip.core.variant == variant);
+        EXPECT(ym2149_load_registers(&chip, dump) == YM2149_ACCEPTED && ym2149_compute_next_sample(&chip).word == dumped[variant]);
+        EXPECT(ym2149_reset(&chip) == YM2149_ACCEPTED && chip.core.variant == variant);
+        EXPECT(ym2149_load_registers(&chip, rising) == YM2149_ACCEPTED && ym2149_block(&chip, out, 3).no == YM2149_ACCEPTED);
+        EXPECT(memcmp(out, risen[variant], sizeof out) == 0 && chip.core.variant == variant);
+    }
+    EXPECT(ym2149_with_variant(&chip, 2000000, 44100, 3) == YM2149_NO_SUCH_VARIANT);
+    expect_default(&chip);
+    EXPECT(ym2149_with_variant(&chip, 2000000, 44100, 255) == YM2149_NO_SUCH_VARIANT);
+    EXPECT(ym2149_with_variant(&chip, 1073741824, 0, 3) == YM2149_MASTER_TOO_HIGH);
+    EXPECT(ym2149_with_variant(&chip, 2000000, 0, 3) == YM2149_RATE_ZERO);
+    EXPECT(ym2149_with_variant(&chip, 2000000, 44100, 2) == YM2149_ACCEPTED && chip.core.clocks.rate == 44100);
+    EXPECT(ym2149_with_variant(&chip, 2000000, 250001, 3) == YM2149_RATE_TOO_HIGH);
+    expect_default(&chip);
+    EXPECT(ym2149_with_variant(&chip, 2000000, 44100, 2) == YM2149_ACCEPTED && chip.core.variant == 2);
+    EXPECT(ym2149_with_clocks(&chip, 2000000, 44100) == YM2149_ACCEPTED && chip.core.variant == 0);
+
+    chip.core.variant = 3;
+    EXPECT(ym2149_reset(&chip) == YM2149_OUT_OF_RANGE && ym2149_set_channel_mute(&chip, 3, true) == YM2149_OUT_OF_RANGE);
+    EXPECT(ym2149_read_register(&chip, 7).no == YM2149_OUT_OF_RANGE && ym2149_compute_next_sample(&chip).no == YM2149_OUT_OF_RANGE);
+    EXPECT(ym2149_block(&chip, out, 3).no == YM2149_OUT_OF_RANGE && chip.core.variant == 3);
+    chip.core.variant = 2;
+    EXPECT(ym2149_reset(&chip) == YM2149_ACCEPTED && chip.core.variant == 2);
 }
 
 static void registers(void)
@@ -138,6 +172,7 @@ static void words(void)
 int main(void)
 {
     making();
+    variants();
     registers();
     ports();
     cycles();

@@ -8,6 +8,7 @@ const LONGEST: usize = 65_537;
 #[derive(Clone, Copy)]
 pub enum Call {
     New(u32, u32),
+    Make(u32, u32, u8),
     Default,
     Reset,
     Write(u8, u8),
@@ -41,6 +42,7 @@ pub fn read(line: &str) -> Option<Call> {
     let parts: Vec<&str> = line.split(' ').collect();
     Some(match parts[..] {
         ["new", master, rate] => Call::New(number(master)?, number(rate)?),
+        ["make", master, rate, variant] => Call::Make(number(master)?, number(rate)?, number(variant)?),
         ["default"] => Call::Default,
         ["reset"] => Call::Reset,
         ["write", register, value] => Call::Write(number(register)?, number(value)?),

@@ -38,6 +38,11 @@ pub fn by_calls() -> Vec<Case> {
     ]
 }
 
+/// To be run on chips of other variants too.
+pub fn for_a_variant() -> Vec<Case> {
+    vec![case("six words in pieces, at 44100", in_pieces(44_100, 181))]
+}
+
 /// Word, register and value: every register, many more than once in a word, and none in the second word.
 #[rustfmt::skip]
 const SIX_WORDS: [(u64, u8, u8); 31] = [

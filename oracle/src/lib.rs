@@ -27,4 +27,5 @@ pub mod script_cases;
 pub mod set;
 pub mod shape_cases;
 pub mod text;
+pub mod variant_cases;
 pub mod wave_cases;

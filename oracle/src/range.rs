@@ -1,12 +1,13 @@
-//! 01, "What changes shape": when a record is in range. Each line of the test stands under 01's words for it.
+//! 01, "What changes shape": when a record is in range. Each line of the test stands under 01's words for it, the variant's under 02's.
 
 use crate::chip::Ym2149;
-use crate::refusal::{self, ACCEPTED};
+use crate::refusal::{self, ACCEPTED, VARIANT_MAX};
 use crate::ring::Ring;
 use crate::tables::REG_MASK;
 
 pub fn in_range(chip: &Ym2149, master: u32, ring: &Ring) -> bool {
-    clocks(chip, master) && stored(chip) && generators(chip) && gates(chip) && selections(chip, ring)
+    let voice = stored(chip) && generators(chip) && gates(chip);
+    clocks(chip, master) && variant(chip) && voice && selections(chip, ring)
 }
 
 /// "accepted clocks and their quotients, accumulator below the rate"
@@ -16,6 +17,11 @@ fn clocks(chip: &Ym2149, master: u32) -> bool {
         && internal == master / 8
         && cycles == 4 * master as u64 / rate as u64
         && chip.accumulator() < rate
+}
+
+/// 02, request 05: "a record with a variant above 2 gives 22"
+fn variant(chip: &Ym2149) -> bool {
+    chip.mixer().variant() <= VARIANT_MAX
 }
 
 /// "stored bytes within masks"

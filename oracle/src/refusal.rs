@@ -13,6 +13,7 @@ pub const OUT_OF_RANGE: u8 = 9;
 pub const BYTES_LEFT: u8 = 10;
 pub const DUMP_TOO_LONG: u8 = 11;
 pub const STAMP_LOWER: u8 = 12;
+pub const NO_SUCH_VARIANT: u8 = 13;
 pub const BAD_RECORD: u8 = 22;
 
 pub const MASTER_MAX: u32 = 1_073_741_823;
@@ -25,6 +26,7 @@ pub const TEXT_MAX: usize = 65_536;
 pub const WRITES_MAX: u64 = 1_500;
 pub const CAPTURE_WORDS_MAX: u64 = 65_536;
 pub const PORT_MAX: u64 = 3;
+pub const VARIANT_MAX: u8 = 2;
 
 /// What making a chip with these clocks answers. The order is 1, 2, 3.
 pub fn of_clocks(master: u32, rate: u32) -> u8 {
@@ -36,6 +38,14 @@ pub fn of_clocks(master: u32, rate: u32) -> u8 {
         RATE_TOO_HIGH
     } else {
         ACCEPTED
+    }
+}
+
+/// What making a chip of this variant answers. 02, request 05: 13 is "checked after 1, 2 and 3".
+pub fn of_making(master: u32, rate: u32, variant: u8) -> u8 {
+    match of_clocks(master, rate) {
+        ACCEPTED if variant > VARIANT_MAX => NO_SUCH_VARIANT,
+        number => number,
     }
 }
 

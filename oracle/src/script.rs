@@ -13,6 +13,8 @@ use std::fmt::{Display, Write};
 
 /// A longer block prints its first and last word and a check of all.
 const WORDS_SHOWN: usize = 32;
+/// 02, request 05: "0, the crate's".
+const CRATES_VARIANT: u8 = 0;
 /// 01: "The default clocks are 2,000,000 and" 250,000, by 02's request 07. The crate's own default rate stays 44,100.
 const DEFAULT_MASTER: u32 = 2_000_000;
 const DEFAULT_RATE: u32 = 250_000;
@@ -56,7 +58,8 @@ impl Bench {
 
     fn answer(&mut self, call: Call) -> String {
         match call {
-            Call::New(master, rate) => self.make(master, rate),
+            Call::New(master, rate) => self.make(master, rate, CRATES_VARIANT),
+            Call::Make(master, rate, variant) => self.make(master, rate, variant),
             Call::Default => self.make_default(ACCEPTED),
             Call::Waiting(place) => self.waiting(place),
             Call::Lent(_) => done(()),
@@ -101,7 +104,8 @@ impl Bench {
             }
             Call::Word => self.block(1),
             Call::Block(length) => self.block(length),
-            Call::New(..) | Call::Default | Call::Waiting(_) | Call::Lent(_) | Call::Set(..) => unreachable!(),
+            Call::New(..) | Call::Make(..) | Call::Default => unreachable!(),
+            Call::Waiting(_) | Call::Lent(_) | Call::Set(..) => unreachable!(),
         }
     }
 
@@ -117,12 +121,13 @@ impl Bench {
         }
     }
 
-    fn make(&mut self, master: u32, rate: u32) -> String {
-        let refusal = refusal::of_clocks(master, rate);
+    fn make(&mut self, master: u32, rate: u32, variant: u8) -> String {
+        let refusal = refusal::of_making(master, rate, variant);
         if refusal != ACCEPTED {
             return self.make_default(refusal);
         }
         self.chip = Ym2149::with_clocks(master, rate);
+        self.chip.set_variant(variant);
         self.master = master;
         self.ring = Ring::default();
         refusal.to_string()
@@ -205,7 +210,7 @@ impl Bench {
         let waiting = if self.ring.fits() { chip.pending_write_count() as u64 } else { self.ring.count };
         write!(out, " waiting={waiting} clocks={internal},{rate},{cycles}").unwrap();
         write!(out, " accumulator={} stamp={}", chip.accumulator(), chip.cpu_cycle()).unwrap();
-        writeln!(out, " start={} irq={}", chip.start(), chip.irq() as u8).unwrap();
+        writeln!(out, " start={} irq={} variant={}", chip.start(), chip.irq() as u8, chip.mixer().variant()).unwrap();
     }
 }
 

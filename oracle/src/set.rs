@@ -10,6 +10,7 @@ pub enum Field {
     Rate,
     Internal,
     Cycles,
+    Variant,
     Accumulator,
     Stamp,
     Start,
@@ -43,9 +44,9 @@ const I32: (i128, i128) = (i32::MIN as i128, i32::MAX as i128);
 
 /// Every field, its name and its type's limits.
 #[rustfmt::skip]
-pub const FIELDS: [(&str, Field, (i128, i128)); 44] = [
+pub const FIELDS: [(&str, Field, (i128, i128)); 45] = [
     ("master", Master, U32), ("rate", Rate, U32), ("internal", Internal, U32), ("cycles", Cycles, U64),
-    ("accumulator", Accumulator, U32), ("stamp", Stamp, U64), ("start", Start, U64),
+    ("variant", Variant, U8), ("accumulator", Accumulator, U32), ("stamp", Stamp, U64), ("start", Start, U64),
     ("R0", Stored(0), U8), ("R1", Stored(1), U8), ("R2", Stored(2), U8), ("R3", Stored(3), U8), ("R4", Stored(4), U8),
     ("R5", Stored(5), U8), ("R6", Stored(6), U8), ("R7", Stored(7), U8), ("R8", Stored(8), U8), ("R9", Stored(9), U8),
     ("R10", Stored(10), U8), ("R11", Stored(11), U8), ("R12", Stored(12), U8), ("R13", Stored(13), U8), ("select", Select, U8),
@@ -75,6 +76,7 @@ impl Bench {
             Rate => self.chip.set_clocks(internal, value as u32, cycles),
             Internal => self.chip.set_clocks(value as u32, rate, cycles),
             Cycles => self.chip.set_clocks(internal, rate, value as u64),
+            Variant => self.chip.set_variant(value as u8),
             Accumulator => self.chip.set_accumulator(value as u32),
             Stamp => self.chip.set_cpu_cycle(value as u64),
             Start => self.chip.set_start(value as u64),
@@ -113,6 +115,7 @@ impl Bench {
             Rate => rate as i128,
             Internal => internal as i128,
             Cycles => cycles as i128,
+            Variant => self.chip.mixer().variant() as i128,
             Accumulator => self.chip.accumulator() as i128,
             Stamp => self.chip.cpu_cycle() as i128,
             Start => self.chip.start() as i128,

@@ -89,12 +89,27 @@ pub fn a_alone() -> Vec<Case> {
     all.extend([
         case("every byte in R13, at once", blocks(&USUAL, A_ALONE, bytes(), NOTHING)),
         case("every byte in R13, by the queue", blocks(&USUAL, A_ALONE, bytes(), IN_THE_MIDDLE)),
+    ]);
+    all.extend(places_and_restarts());
+    all
+}
+
+/// To be run on chips of other variants too: A alone is heard.
+pub fn for_a_variant() -> Vec<Case> {
+    let name = |pace: &Pace| format!("R13 in the first word, back in the middle, and the last, at {}", pace.rate);
+    let script = |pace: &Pace| blocks(pace, A_ALONE, pairs(), FIRST_MIDDLE_AND_LAST);
+    let mut all: Vec<Case> = [PLAIN, USUAL, SLOW].iter().map(|pace| case(name(pace), script(pace))).collect();
+    all.extend(places_and_restarts());
+    all
+}
+
+fn places_and_restarts() -> [Case; 4] {
+    [
         case("every place", every_place()),
         case("places that are set", places_set()),
         case("after a reset", after_a_reset()),
         case("between blocks", between_blocks()),
-    ]);
-    all
+    ]
 }
 
 /// Two words at a place, so that -64 is heard too; up to 63, and then 0 to 63 again.

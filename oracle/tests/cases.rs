@@ -20,8 +20,29 @@ fn ring_of_the_kept_sample() {
 }
 
 #[test]
+fn forms_of_make() {
+    for (line, good) in [
+        ("make 2000000 250000 0", true),
+        ("make 4294967295 4294967295 255", true),
+        ("make 2000000 250000 256", false),
+        ("make 2000000 250000 -1", false),
+        ("make 2000000 250000 02", false),
+        ("make 2000000 250000 ", false),
+        ("make 2000000 250000", false),
+        ("make 2000000 250000 2 0", false),
+        ("make 4294967296 250000 2", false),
+        ("make 2000000 4294967296 2", false),
+        ("new 2000000 250000 0", false),
+    ] {
+        assert_eq!(Bench::default().line(line, &mut String::new()), good, "{line}");
+    }
+}
+
+#[test]
 fn forms_of_set() {
     for (line, good) in [
+        ("set variant 255", true),
+        ("set variant 256", false),
         ("set select 255", true),
         ("set select 256", false),
         ("set select 01", false),

@@ -6,6 +6,7 @@ use common::check;
 use oracle::call::{Call, read};
 use oracle::due_cases::{all, by_calls};
 use oracle::script::{Bench, rendered};
+use oracle::variant_cases::due_writes;
 use std::collections::VecDeque;
 
 #[test]
@@ -75,7 +76,7 @@ impl Plain {
                 let (stamp, register, value) = self.waiting[place as usize];
                 format!("0 {stamp} {register} {value}")
             }
-            Call::New(..) | Call::Reset => {
+            Call::New(..) | Call::Make(..) | Call::Reset => {
                 self.waiting.clear();
                 self.answer(line)
             }
@@ -90,7 +91,7 @@ impl Plain {
 
 #[test]
 fn as_plain_writes() {
-    for case in by_calls() {
+    for case in by_calls().into_iter().chain(due_writes()) {
         let (mut bench, mut plain) = (Bench::default(), Plain::default());
         let calls = case.script.lines().enumerate().filter(|(_, line)| !line.starts_with('#'));
         for (place, line) in calls {

@@ -1,40 +1,24 @@
 //! 02, request 06: an envelope's entry from its shape's bits. The oracle beside words worked out from 01, and beside the page that has the
-//! crate's table.
+//! crate's table. Those of 02's request 05 that are about shapes too.
 
+#[path = "common/levels.rs"]
+mod levels;
+
+use levels::{LEVELS, ROWS, entry, used};
 use oracle::call::{Call, read};
 use oracle::script::{Bench, rendered};
+use oracle::script_cases::Case;
 use oracle::set::Field;
 use oracle::tables::ENV_DATA;
+use oracle::variant_cases::shapes;
 use oracle::wave_cases::a_alone;
 use std::collections::VecDeque;
-
-/// 01: "Levels 0..31"
-#[rustfmt::skip]
-const LEVELS: [u16; 32] = [
-    50, 60, 71, 85, 101, 120, 143, 170, 202, 241, 287, 341, 405, 482, 574, 682, 811, 965, 1148, 1365, 1623, 1930, 2296,
-    2730, 3247, 3861, 4592, 5461, 6494, 7723, 9184, 10922,
-];
-
-/// 01: "Envelope entry for shape bits C A L H (bit 3 down to bit 0), segment k of 4, step j of 32"
-fn entry(shape: u8, place: u64) -> u64 {
-    let [c, a, l, h] = [3, 2, 1, 0].map(|bit| shape >> bit & 1 == 1);
-    let (k, j) = (place / 32, place % 32);
-    let ramp = |rises| if rises { j } else { 31 - j };
-    match (c, h, k) {
-        (false, _, 0) | (true, true, 0) => ramp(a),
-        (false, _, _) => 0,
-        (true, false, _) => ramp(a != (l && k % 2 == 1)),
-        (true, true, _) => 31 * (a != l) as u64,
-    }
-}
-
-/// The lowest shape of each row of the table.
-const ROWS: [u8; 10] = [0, 4, 8, 9, 10, 11, 12, 13, 14, 15];
 
 /// A chip of master 2,000,000 whose A alone is heard, ungated and whole. Its ticks and steps are worked out, not run.
 #[derive(Default)]
 struct ByHand {
     rate: u64,
+    variant: u8,
     /// Since the chip was made or reset.
     words: u64,
     start: u64,
@@ -91,8 +75,7 @@ impl ByHand {
         self.start += 8_000_000 / self.rate;
         self.apply_up_to(self.start);
         self.words += 1;
-        let level = if self.volume & 16 != 0 { self.level() } else { 2 * self.volume as u64 };
-        LEVELS[level as usize]
+        LEVELS[used(self.variant, self.volume, self.level()) as usize]
     }
 
     fn block(&mut self, length: usize) -> String {
@@ -105,9 +88,10 @@ impl ByHand {
     fn line(&mut self, line: &str) -> Option<String> {
         match read(line)? {
             Call::New(2_000_000, rate) => *self = ByHand { rate: rate as u64, ..ByHand::default() },
+            Call::Make(2_000_000, rate, variant) => *self = ByHand { rate: rate as u64, variant, ..ByHand::default() },
             Call::Reset => {
-                let (rate, period) = (self.rate, self.period);
-                *self = ByHand { rate, period, from: (64, 0), ..ByHand::default() };
+                let ByHand { rate, variant, period, .. } = *self;
+                *self = ByHand { rate, variant, period, from: (64, 0), ..ByHand::default() };
             }
             Call::Write(register, value) => self.write(register, value),
             Call::Load(bytes) => (0..14).zip(bytes).for_each(|(register, value)| self.write(register, value)),
@@ -134,10 +118,10 @@ fn answer(bench: &mut Bench, line: &str) -> String {
     printed.lines().next().unwrap().to_string()
 }
 
-#[test]
-fn words_of_01() {
+/// How many words were held beside those by hand.
+fn held_to(cases: Vec<Case>) -> u64 {
     let mut words = 0;
-    for case in a_alone() {
+    for case in cases {
         let (mut bench, mut by_hand) = (Bench::default(), ByHand::default());
         for (place, line) in case.script.lines().enumerate() {
             let ours = answer(&mut bench, line);
@@ -147,7 +131,19 @@ fn words_of_01() {
         }
         words += bench.words;
     }
+    words
+}
+
+#[test]
+fn words_of_01() {
+    let words = held_to(a_alone());
     assert!(words > 300_000, "{words}");
+}
+
+#[test]
+fn words_of_the_variants() {
+    let words = held_to(shapes());
+    assert!(words > 100_000, "{words}");
 }
 
 /// Shape 8 falls and 13 rises. R13 is written at the first word of eight, at the fifth and at the last: 6, 12, 18 and 23 steps, then 6, 12

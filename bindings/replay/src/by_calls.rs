@@ -11,6 +11,7 @@ pub fn answer(chip: &mut Record, call: Call) -> String {
     unsafe {
         match call {
             Call::New(master, rate) => ym2149_with_clocks(chip, master, rate).to_string(),
+            Call::Make(master, rate, variant) => ym2149_with_variant(chip, master, rate, variant).to_string(),
             Call::Default => ym2149_new(chip).to_string(),
             Call::Reset => ym2149_reset(chip).to_string(),
             Call::Write(register, value) => ym2149_write_register(chip, register, value).to_string(),

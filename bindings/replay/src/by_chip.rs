@@ -13,11 +13,8 @@ pub fn answer(record: &mut Record, call: Call) -> String {
 
 fn asked(chip: &mut Chip, call: Call) -> String {
     match call {
-        Call::New(master, rate) => {
-            let (no, made) = told(Chip::with_clocks(master, rate));
-            *chip = made;
-            no.to_string()
-        }
+        Call::New(master, rate) => made(chip, Chip::with_clocks(master, rate)),
+        Call::Make(master, rate, variant) => made(chip, Chip::with_variant(master, rate, variant)),
         Call::Default => {
             *chip = Chip::new();
             "0".into()
@@ -76,6 +73,12 @@ fn asked(chip: &mut Chip, call: Call) -> String {
         }
         Call::Waiting(_) | Call::Lent(_) | Call::Set(..) => unreachable!(),
     }
+}
+
+fn made(chip: &mut Chip, answer: Result<Chip, Refusal>) -> String {
+    let (no, made) = told(answer);
+    *chip = made;
+    no.to_string()
 }
 
 /// The number and what else was answered; 01: "other answers 0 or no", and of a refused making "a fresh default chip".

@@ -31,6 +31,7 @@ pub fn set(record: &mut Record, field: Field, value: i128) {
         Field::Rate => core.clocks.rate = value as u32,
         Field::Internal => core.clocks.internal = value as u32,
         Field::Cycles => core.clocks.cycles = value as u64,
+        Field::Variant => core.variant = value as u8,
         Field::Accumulator => core.accumulator = value as u32,
         Field::Stamp => core.stamp = value as u64,
         Field::Start => core.start = value as u64,
@@ -73,7 +74,8 @@ pub fn state(record: &Record) -> String {
         format!("gates={},{}", gates.tone, gates.noise),
         format!("a={} b={} c={}", channel(core.a), channel(core.b), channel(core.c)),
         format!("waiting={} clocks={},{},{}", queue.count, clocks.internal, clocks.rate, clocks.cycles),
-        format!("accumulator={} stamp={} start={} irq={}", core.accumulator, core.stamp, core.start, voice.irq as u8),
+        format!("accumulator={} stamp={} start={}", core.accumulator, core.stamp, core.start),
+        format!("irq={} variant={}", voice.irq as u8, core.variant),
     ]
     .join(" ")
 }

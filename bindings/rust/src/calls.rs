@@ -1,7 +1,7 @@
 //! The calls as the library exports them. include/ym2149.h says of each what it does, what it answers and when it refuses.
 //!
-//! A call is sound where `chip` is one record, made by `ym2149_new` or `ym2149_with_clocks` or all zeros, which nobody else touches during
-//! the call, and `out` is `words` words that do not overlap it. A record may hold any values of its fields' types.
+//! A call is sound where `chip` is one record, made by `ym2149_new`, `ym2149_with_clocks` or `ym2149_with_variant` or all zeros, which
+//! nobody else touches during the call, and `out` is `words` words that do not overlap it. A record may hold any values of its fields' types.
 
 use crate::record::{Drum, Record, laid_out};
 use core::mem::{offset_of, size_of};
@@ -85,6 +85,7 @@ laid_out!(Played, 24, words 8, ticks 16);
 unsafe extern "C" {
     pub fn ym2149_new(chip: *mut Record) -> u8;
     pub fn ym2149_with_clocks(chip: *mut Record, master: u32, rate: u32) -> u8;
+    pub fn ym2149_with_variant(chip: *mut Record, master: u32, rate: u32, variant: u8) -> u8;
 
     pub fn ym2149_reset(chip: *mut Record) -> u8;
     pub fn ym2149_write_register(chip: *mut Record, register: u8, value: u8) -> u8;

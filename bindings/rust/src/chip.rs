@@ -21,17 +21,25 @@ pub struct Word {
 
 /// Making.
 impl Chip {
-    /// At the default clocks, 2,000,000 and 250,000: one tick to a word.
+    /// Of variant 0 at the default clocks, 2,000,000 and 250,000: one tick to a word.
     pub fn new() -> Chip {
         let mut chip = Chip::unmade();
         unsafe { ym2149_new(&mut chip.record) };
         chip
     }
 
-    /// Refused, there is no chip: the fresh default chip that the call leaves is `Chip::new()`.
+    /// Of variant 0. Refused, there is no chip: the fresh default chip that the call leaves is `Chip::new()`.
     pub fn with_clocks(master: u32, rate: u32) -> Result<Chip, Refusal> {
         let mut chip = Chip::unmade();
         let no = unsafe { ym2149_with_clocks(&mut chip.record, master, rate) };
+        Refusal::unless(no, chip)
+    }
+
+    /// Of variant 0, the crate's; 1, whose fixed volume v uses level 2v + 1 for v from 1 to 15 and 0 for 0; or 2, where an envelope level
+    /// is used with its lowest bit cleared. No later call changes it.
+    pub fn with_variant(master: u32, rate: u32, variant: u8) -> Result<Chip, Refusal> {
+        let mut chip = Chip::unmade();
+        let no = unsafe { ym2149_with_variant(&mut chip.record, master, rate, variant) };
         Refusal::unless(no, chip)
     }
 
@@ -59,7 +67,7 @@ impl Default for Chip {
 
 /// Calls that change the chip.
 impl Chip {
-    /// Keeps noise period, envelope period, mutes and each channel's last amplitude.
+    /// Keeps noise period, envelope period, mutes and each channel's last amplitude, and the variant.
     pub fn reset(&mut self) -> Result<(), Refusal> {
         done(unsafe { ym2149_reset(&mut self.record) })
     }

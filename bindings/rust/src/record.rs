@@ -90,6 +90,7 @@ pub struct Core {
     pub b: Channel,
     pub c: Channel,
     pub selected: u8,
+    pub variant: u8,
     pub accumulator: u32,
     pub stamp: u64,
     pub start: u64,
@@ -130,6 +131,6 @@ laid_out!(Gates, 8, noise 4);
 laid_out!(Voice, 92, generators 16, gates 80, irq 88);
 laid_out!(Drum, 8, sample 4);
 laid_out!(Channel, 20, drum 4, output 12, amplitude 16);
-laid_out!(Core, 200, voice 24, a 116, b 136, c 156, selected 176, accumulator 180, stamp 184, start 192);
+laid_out!(Core, 200, voice 24, a 116, b 136, c 156, selected 176, variant 177, accumulator 180, stamp 184, start 192);
 laid_out!(Queue, 2576, registers 2048, values 2304, head 2560, count 2568);
 laid_out!(Record, 2776, queue 200);

@@ -1,8 +1,8 @@
-//! 01, "Numbers a call can answer".
+//! 01, "Numbers a call can answer", with 02's later ones.
 
 use core::fmt;
 
-/// The number by which a call was refused; never 0. Shown, it is 01's words for it.
+/// The number by which a call was refused; never 0. Shown, it is 01's words for it, or 02's.
 #[derive(Clone, Copy, Debug, PartialEq, Eq)]
 pub struct Refusal(u8);
 
@@ -14,6 +14,7 @@ impl Refusal {
     pub const BLOCK_TOO_LONG: Refusal = Refusal(5);
     pub const BLOCK_TOO_LATE: Refusal = Refusal(6);
     pub const NO_SUCH_CHANNEL: Refusal = Refusal(7);
+    pub const NO_SUCH_VARIANT: Refusal = Refusal(13);
     pub const OUT_OF_RANGE: Refusal = Refusal(22);
 
     pub fn number(self) -> u8 {
@@ -36,6 +37,7 @@ impl fmt::Display for Refusal {
             5 => "block buffer longer than 65,536 words",
             6 => "block's last word would end past cycle 2^64 - 1",
             7 => "mute or drum for channel 3 or above",
+            13 => "variant above 2",
             22 => "a handed-in chip record out of range",
             no => return write!(f, "refused by number {no}"),
         })

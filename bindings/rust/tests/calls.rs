@@ -17,9 +17,10 @@ fn waiting_256() -> Chip {
     chip
 }
 
-fn out_of_range() -> Chip {
+/// A record that the host has changed.
+fn with(change: fn(&mut Record)) -> Chip {
     let mut record = *chip().record();
-    record.core.selected = 16;
+    change(&mut record);
     Chip::from_record(record)
 }
 
@@ -58,6 +59,49 @@ fn refused_clocks_leave_a_fresh_default_chip() {
     for (master, rate, no) in [(1_073_741_824, 0, 1), (2_000_000, 0, 2), (2_000_000, 250_001, 3)] {
         let mut record = *chip().record();
         assert_eq!(unsafe { ym2149_with_clocks(&mut record, master, rate) }, no);
+        assert_eq!(Chip::from_record(record), Chip::new());
+    }
+}
+
+/// At 250,000; the words of 01's dump, and of an envelope that rises from level 1 on.
+#[test]
+fn a_variant_has_its_words() {
+    for (variant, four, five) in [
+        (0, [9_234, 100, 100, 9_234], [110, 121, 135, 151, 170]),
+        (1, [10_972, 100, 100, 10_972], [110, 121, 135, 151, 170]),
+        (2, [9_234, 100, 100, 9_234], [100, 121, 121, 151, 151]),
+    ] {
+        let mut chip = Chip::with_variant(2_000_000, 250_000, variant).unwrap();
+        assert_eq!(chip.load_registers([0x02, 0, 0, 0, 0, 0, 0, 0x3e, 0x0f, 0, 0, 0, 0, 0, 0, 0]), Ok(()));
+        let mut out = [0; 4];
+        assert_eq!((chip.block(&mut out), out), (Ok(4), four));
+        assert_eq!((chip.reset(), chip.record().core.variant), (Ok(()), variant));
+        assert_eq!(chip.load_registers([0x02, 0, 0, 0, 0, 0, 0, 0x3f, 0x1f, 0, 0, 0, 0, 0x0d, 0, 0]), Ok(()));
+        let mut out = [0; 5];
+        assert_eq!((chip.block(&mut out), out), (Ok(5), five));
+        assert_eq!(chip.record().core.variant, variant);
+    }
+}
+
+#[test]
+fn makings_without_a_variant_are_of_variant_0() {
+    assert_eq!(Chip::with_clocks(2_000_000, 44_100), Chip::with_variant(2_000_000, 44_100, 0));
+    assert_eq!((Chip::new().record().core.variant, chip().record().core.variant), (0, 0));
+}
+
+#[test]
+fn refused_variants_give_13_after_1_2_and_3() {
+    for variant in [3, 255] {
+        assert_eq!(Chip::with_variant(2_000_000, 44_100, variant), Err(Refusal::NO_SUCH_VARIANT));
+        assert_eq!(Chip::with_variant(1_073_741_824, 0, variant), Err(Refusal::MASTER_TOO_HIGH));
+        assert_eq!(Chip::with_variant(2_000_000, 0, variant), Err(Refusal::RATE_ZERO));
+        assert_eq!(Chip::with_variant(2_000_000, 250_001, variant), Err(Refusal::RATE_TOO_HIGH));
+    }
+    assert_eq!((Refusal::NO_SUCH_VARIANT.number(), Refusal::NO_SUCH_VARIANT.to_string().as_str()), (13, "variant above 2"));
+    let refused = [(1_073_741_824, 0, 2, 1), (2_000_000, 0, 3, 2), (2_000_000, 250_001, 1, 3), (2_000_000, 44_100, 3, 13)];
+    for (master, rate, variant, no) in refused {
+        let mut record = *Chip::with_variant(2_000_000, 44_100, 2).unwrap().record();
+        assert_eq!(unsafe { ym2149_with_variant(&mut record, master, rate, variant) }, no);
         assert_eq!(Chip::from_record(record), Chip::new());
     }
 }
@@ -162,8 +206,18 @@ fn blocks_and_their_limits() {
 }
 
 #[test]
-fn a_record_out_of_range_is_refused_by_every_call() {
-    let mut chip = out_of_range();
+fn a_selection_out_of_range_is_refused_by_every_call() {
+    refused_by_every_call(with(|record| record.core.selected = 16));
+}
+
+#[test]
+fn a_variant_above_2_is_refused_by_every_call() {
+    refused_by_every_call(with(|record| record.core.variant = 3));
+    refused_by_every_call(with(|record| record.core.variant = 255));
+    assert_eq!(with(|record| record.core.variant = 2).reset(), Ok(()));
+}
+
+fn refused_by_every_call(mut chip: Chip) {
     let before = chip.clone();
     let bad = Refusal::OUT_OF_RANGE;
     assert_eq!((chip.reset(), chip.write_register(8, 1), chip.load_registers(BUSY)), (Err(bad), Err(bad), Err(bad)));
@@ -195,11 +249,12 @@ impl Room {
         self.0.as_mut_ptr().cast()
     }
 
-    /// A new chip with a mark of the host's between some fields: of the clocks, before the generators, of tone A, of channel A.
+    /// A new chip with a mark of the host's between some fields: of the clocks, before the generators, of tone A, of channel A, behind the
+    /// variant.
     fn marked() -> Room {
         let mut room = Room([0; ROOM]);
         assert_eq!(unsafe { ym2149_with_clocks(room.record(), 2_000_000, 44_100) }, 0);
-        for gap in [12, 38, 49, 117] {
+        for gap in [12, 38, 49, 117, 178] {
             unsafe { *room.record().cast::<u8>().add(gap) = 0xa5 };
         }
         room

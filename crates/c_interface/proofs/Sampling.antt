@@ -6,7 +6,7 @@ use Prim.Native.Nat.{ℕ}
 use lib.Dec.{eqb}
 use Rattle.lent_walks.proofs.Parts.{Part, Reply, FieldsFrom, kinds, offset, puts}
 use Rattle.lent_walks.proofs.Ring as walk
-use Rattle.lent_record.proofs.RecordParts.{accumulator, channel-a, channel-b, channel-c, clocks, count, head, registers, stamps, start, values, voice}
+use Rattle.lent_record.proofs.RecordParts.{accumulator, channel-a, channel-b, channel-c, clocks, count, head, registers, stamps, start, values, variant, voice}
 use Rattle.lent_record.proofs.Lengths.{record-laid}
 use Rattle.lent_chip.proofs.ShownRing.{same-ring}
 use Rattle.refusals.specs.Numbers.{accepted}
@@ -37,7 +37,7 @@ use Rattle.c_words.proofs.RecordWord.Laws as step-laws
 
 -- what is taken out, what is stored back, and the step's reply
 abbrev pub taken : List (Part lent)
-taken = clocks ∷ voice ∷ channel-a ∷ channel-b ∷ channel-c ∷ accumulator ∷ start ∷ head ∷ count ∷ []
+taken = clocks ∷ variant ∷ voice ∷ channel-a ∷ channel-b ∷ channel-c ∷ accumulator ∷ start ∷ head ∷ count ∷ []
 
 abbrev pub changed : List (Part lent)
 changed = voice ∷ channel-a ∷ channel-b ∷ channel-c ∷ accumulator ∷ start ∷ head ∷ count ∷ []
@@ -59,21 +59,21 @@ abbrev pub Shown : Type 0
 Shown = List ℕ × (List ℕ × List ℕ)
 
 abbrev pub Taken : Type 0
-Taken = Bool × (Clocks × (Voice × (RecordChannel × (RecordChannel × (RecordChannel × (ℕ × (ℕ × (ℕ × (ℕ × Unit {0})))))))))
+Taken = Bool × (Clocks × (ℕ × (Voice × (RecordChannel × (RecordChannel × (RecordChannel × (ℕ × (ℕ × (ℕ × (ℕ × Unit {0}))))))))))
 
 abbrev pub chip-of : Shown → Taken → Chip
 chip-of s a =
-    let r = a .1 .1 .1 in
-    chipAt (a .1 .0) (a .1 .1 .0) (channelsOf (r .0) (r .1 .0) (r .1 .1 .0)) (r .1 .1 .1 .0) (r .1 .1 .1 .1 .0) (ring (s .0) (s .1 .0) (s .1 .1) (r .1 .1 .1 .1 .1 .0) (r .1 .1 .1 .1 .1 .1 .0))
+    let r = a .1 .1 .1 .1 in
+    chipAt (a .1 .0) (a .1 .1 .0) (a .1 .1 .1 .0) (channelsOf (r .0) (r .1 .0) (r .1 .1 .0)) (r .1 .1 .1 .0) (r .1 .1 .1 .1 .0) (ring (s .0) (s .1 .0) (s .1 .1) (r .1 .1 .1 .1 .1 .0) (r .1 .1 .1 .1 .1 .1 .0))
 
 abbrev pub asks : Shown → Taken → Type 0
 asks s a = a .0 ≡ true → Playable (chip-of s a)
 
 abbrev pub step : Shown → Taken → RecordWord
-step s a = recordWord (a .1 .1 .1 .0) (a .1 .1 .1 .1 .0) (a .1 .1 .1 .1 .1 .0) (wordStep (a .0) (chip-of s a))
+step s a = recordWord (a .1 .1 .1 .1 .0) (a .1 .1 .1 .1 .1 .0) (a .1 .1 .1 .1 .1 .1 .0) (wordStep (a .0) (chip-of s a))
 
 abbrev with-ring : Record → Queue → Chip
-with-ring x q = chipAt (x .core .clocks) (x .core .voice) (channelsOf (x .core .a) (x .core .b) (x .core .c)) (x .core .accumulator) (x .core .start) q
+with-ring x q = chipAt (x .core .clocks) (x .core .variant) (x .core .voice) (channelsOf (x .core .a) (x .core .b) (x .core .c)) (x .core .accumulator) (x .core .start) q
 
 -- what a word leaves of a record, where b says whether it was accepted
 abbrev storedBy : Bool → Record → WordStep → Record

@@ -9,7 +9,7 @@ ghost use Rattle.c_record.specs.Record.{chipOf, drumOf};
 ghost use Rattle.c_making.specs.Making.{newRecord};
 ghost use Rattle.c_words.specs.Words.{nextBlock, nextWord};
 ghost use Rattle.c_calls.specs.Calls.{onRecord};
-ghost use Rattle.calls_making.specs.Making.{fresh, resetCall, withClocks};
+ghost use Rattle.calls_making.specs.Making.{fresh, resetCall, withClocks, withVariant};
 ghost use Rattle.calls_registers.specs.Stored.{dumpRegisters, loadRegisters, readRegister, writeRegister};
 ghost use Rattle.calls_ports.specs.Ports.{readPort, writePort, writePortImmediate};
 ghost use Rattle.calls_cycles.specs.Cycles.{cpuCycle, flushPendingWrites, pendingWriteCount, setCpuCycle, syncSampleCycle};
@@ -44,6 +44,17 @@ pub extern "C" fn ym2149_with_clocks(chip: &mut Record, master: u32, rate: u32) 
     ensures { λ r. ⌜ (r ≡ newRecord (withClocks master rate) .no) × (now (chip .exit) ≡ newRecord (withClocks master rate) .chip) ⌝ }
 {
     let r = c_making::with_clocks(master, rate);
+    *chip = r.chip;
+    r.no
+}
+
+// So does a refused variant.
+#[no_mangle]
+pub extern "C" fn ym2149_with_variant(chip: &mut Record, master: u32, rate: u32, variant: u8) -> u8
+    ensures { λ r. ⌜ (r ≡ newRecord (withVariant master rate variant) .no)
+        × (now (chip .exit) ≡ newRecord (withVariant master rate variant) .chip) ⌝ }
+{
+    let r = c_making::with_variant(master, rate, variant);
     *chip = r.chip;
     r.no
 }
@@ -353,6 +364,7 @@ pub extern "C" fn ym2149_compute_next_sample(chip: &mut Record) -> Sample
         &chip.queue.values,
         ok,
         chip.core.clocks,
+        chip.core.variant,
         chip.core.voice,
         chip.core.a,
         chip.core.b,

@@ -32,6 +32,7 @@ coreOf k =
       voice = k .voice;
       channels = record { a = channelOf (k .a); b = channelOf (k .b); c = channelOf (k .c) };
       selected = k .selected;
+      variant = k .variant;
       accumulator = k .accumulator;
       stamp = k .stamp;
       start = k .start;
@@ -46,6 +47,7 @@ recordCore k =
       b = recordChannel (k .channels .b);
       c = recordChannel (k .channels .c);
       selected = k .selected;
+      variant = k .variant;
       accumulator = k .accumulator;
       stamp = k .stamp;
       start = k .start;

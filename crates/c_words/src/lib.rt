@@ -31,6 +31,7 @@ pub fn compute_next_sample<'t>(
     values: &'t [u8; 256],
     ok: bool,
     clocks: Clocks,
+    variant: u8,
     voice: Voice,
     a: RecordChannel,
     b: RecordChannel,
@@ -40,8 +41,8 @@ pub fn compute_next_sample<'t>(
     head: usize,
     count: usize,
 ) -> RecordWord
-    requires { ⌜ (ok ≡ true → Playable (chipAt clocks voice (channelsOf a b c) accumulator start (ring (now stamps) (now registers) (now values) head count))) ⌝ }
-    ensures { λ r. ⌜ r ≡ recordWord a b c (wordStep ok (chipAt clocks voice (channelsOf a b c) accumulator start (ring (now (stamps .entry)) (now (registers .entry)) (now (values .entry)) head count))) ⌝ }
+    requires { ⌜ (ok ≡ true → Playable (chipAt clocks variant voice (channelsOf a b c) accumulator start (ring (now stamps) (now registers) (now values) head count))) ⌝ }
+    ensures { λ r. ⌜ r ≡ recordWord a b c (wordStep ok (chipAt clocks variant voice (channelsOf a b c) accumulator start (ring (now (stamps .entry)) (now (registers .entry)) (now (values .entry)) head count))) ⌝ }
 {
     let channels = Channels {
         a: c_record::channel_of(a),
@@ -54,6 +55,7 @@ pub fn compute_next_sample<'t>(
         values,
         ok,
         clocks,
+        variant,
         voice,
         channels,
         accumulator,

@@ -5,7 +5,7 @@ use mathlib.Core.List.{[], _∷_, List}
 use Prim.Native.Nat.{ℕ}
 use Rattle.lent_walks.proofs.Parts.{Part, Reply, FieldsFrom, kinds, offset}
 use Rattle.lent_walks.proofs.Ring as walk
-use Rattle.lent_chip.proofs.ChipParts.{accumulator, channels, clocks, count, head, registers, stamps, start, values, voice}
+use Rattle.lent_chip.proofs.ChipParts.{accumulator, channels, clocks, count, head, registers, stamps, start, values, variant, voice}
 use Rattle.lent_chip.proofs.Lengths.{chip-laid}
 use Rattle.lent_chip.proofs.ShownRing.{ring-shown, same-ring}
 use Rattle.registers.specs.declared.Voice.{Voice}
@@ -28,7 +28,7 @@ use Rattle.steps_words.proofs.WordStep.Laws as step-laws
 
 -- what is taken out, what is stored back, and the step's reply
 abbrev pub taken : List (Part chip)
-taken = clocks ∷ voice ∷ channels ∷ accumulator ∷ start ∷ head ∷ count ∷ []
+taken = clocks ∷ variant ∷ voice ∷ channels ∷ accumulator ∷ start ∷ head ∷ count ∷ []
 
 abbrev pub changed : List (Part chip)
 changed = voice ∷ channels ∷ accumulator ∷ start ∷ head ∷ count ∷ []
@@ -50,10 +50,10 @@ abbrev pub Shown : Type 0
 Shown = List ℕ × (List ℕ × List ℕ)
 
 abbrev pub Taken : Type 0
-Taken = Bool × (Clocks × (Voice × (Channels × (ℕ × (ℕ × (ℕ × (ℕ × Unit {0})))))))
+Taken = Bool × (Clocks × (ℕ × (Voice × (Channels × (ℕ × (ℕ × (ℕ × (ℕ × Unit {0}))))))))
 
 abbrev pub chip-of : Shown → Taken → Chip
-chip-of s a = chipAt (a .1 .0) (a .1 .1 .0) (a .1 .1 .1 .0) (a .1 .1 .1 .1 .0) (a .1 .1 .1 .1 .1 .0) (ring (s .0) (s .1 .0) (s .1 .1) (a .1 .1 .1 .1 .1 .1 .0) (a .1 .1 .1 .1 .1 .1 .1 .0))
+chip-of s a = let r = a .1 .1 .1 in chipAt (a .1 .0) (a .1 .1 .0) (r .0) (r .1 .0) (r .1 .1 .0) (r .1 .1 .1 .0) (ring (s .0) (s .1 .0) (s .1 .1) (r .1 .1 .1 .1 .0) (r .1 .1 .1 .1 .1 .0))
 
 abbrev pub asks : Shown → Taken → Type 0
 asks s a = a .0 ≡ true → Playable (chip-of s a)
@@ -62,7 +62,7 @@ abbrev pub step : Shown → Taken → WordStep
 step s a = wordStep (a .0) (chip-of s a)
 
 abbrev with-ring : Chip → Queue → Chip
-with-ring c q = chipAt (c .core .clocks) (c .core .voice) (c .core .channels) (c .core .accumulator) (c .core .start) q
+with-ring c q = chipAt (c .core .clocks) (c .core .variant) (c .core .voice) (c .core .channels) (c .core .accumulator) (c .core .start) q
 
 stepped : (c : Chip) → sampledBy (wordStep (chipIn c) (with-ring c (ring-shown (c .queue)))) c ≡ sampled c
 stepped c = ap (λ (q : Queue). sampledBy (wordStep (chipIn c) (with-ring c q)) c) (same-ring (c .queue)) ∙ sampled-by c

@@ -17,6 +17,7 @@ pub fn compute_next_sample(chip: &mut Chip) -> Sample
         &chip.queue.values,
         ok,
         chip.core.clocks,
+        chip.core.variant,
         chip.core.voice,
         chip.core.channels,
         chip.core.accumulator,

@@ -25,6 +25,7 @@ pub use calls_effects::trigger_envelope;
 pub use calls_making::new;
 pub use calls_making::reset;
 pub use calls_making::with_clocks;
+pub use calls_making::with_variant;
 pub use calls_ports::read_port;
 pub use calls_ports::write_port;
 pub use calls_ports::write_port_immediate;

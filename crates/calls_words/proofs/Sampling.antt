@@ -28,6 +28,7 @@ stored w c =
         voice = w .voice;
         channels = w .channels;
         selected = c .core .selected;
+        variant = c .core .variant;
         accumulator = w .accumulator;
         stamp = c .core .stamp;
         start = w .start;

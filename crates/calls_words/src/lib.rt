@@ -49,6 +49,7 @@ pub fn compute_next_sample(chip: Chip) -> Sampled
         &ring.values,
         ok,
         core.clocks,
+        core.variant,
         core.voice,
         core.channels,
         core.accumulator,

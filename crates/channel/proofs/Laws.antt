@@ -20,6 +20,7 @@ heard-le c g u half h = by-cond (λ r. r .out ≤ 10922) (c .muted) (heardMuted 
     by-drum Off = loudness-le half g h
 
 -- also by its volume, the envelope and the gate
-pub sounded-le : (c : Channel) (volume : ℕ) (half : Bool) (envelope gate : ℕ) → envelope < 32 → sounded c volume half envelope gate .out ≤ 10922
+pub sounded-le : (variant : ℕ) (c : Channel) (volume : ℕ) (half : Bool) (envelope gate : ℕ) → envelope < 32
+    → sounded variant c volume half envelope gate .out ≤ 10922
 unfolding sounded
-sounded-le c v half e g h = heard-le c (gatedLevel (levelUsed v e) g) (levelUsed v e) half (gated-lt (levelUsed v e) g (used-lt v e h))
+sounded-le a c v half e g h = let u = levelUsed a v e in heard-le c (gatedLevel u g) u half (gated-lt u g (used-lt a v e h))

@@ -45,9 +45,9 @@ unfoldable pub heard : Channel → ℕ → ℕ → Bool → Heard
 heard c gated ungated half = cond (c .muted) (heardMuted c) (heardBy (c .drum) c gated ungated half)
 
 -- one channel's output: its level, AND-ed with the gate
-unfoldable pub sounded : Channel → ℕ → Bool → ℕ → ℕ → Heard
-sounded c volume half envelope gate =
-    let ungated = levelUsed volume envelope in
+unfoldable pub sounded : ℕ → Channel → ℕ → Bool → ℕ → ℕ → Heard
+sounded variant c volume half envelope gate =
+    let ungated = levelUsed variant volume envelope in
     heard c (gatedLevel ungated gate) ungated half
 
 -- a new channel

@@ -68,12 +68,20 @@ impl Channel {
     }
 
     // `gate` holds the channel's five bits at the bottom.
-    pub fn sound(self, volume: u8, half: bool, envelope: u8, gate: u32, table: &[u16; 32]) -> Heard
+    pub fn sound(
+        self,
+        variant: u8,
+        volume: u8,
+        half: bool,
+        envelope: u8,
+        gate: u32,
+        table: &[u16; 32],
+    ) -> Heard
         requires { ⌜ envelope < 32 ⌝ }
         requires { ⌜ now table ≡ levels ⌝ }
-        ensures { λ r. ⌜ r ≡ sounded self volume half envelope gate ⌝ }
+        ensures { λ r. ⌜ r ≡ sounded variant self volume half envelope gate ⌝ }
     {
-        let ungated = levels::level_used(volume, envelope);
+        let ungated = levels::level_used(variant, volume, envelope);
         let gated = levels::gated_level(ungated, gate);
         self.compute_output(gated, ungated, half, table)
     }

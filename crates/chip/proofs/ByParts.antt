@@ -8,16 +8,17 @@ use Rattle.voice_range.specs.Range.{voiceIn}
 use Rattle.queue.specs.Waiting.{queueIn}
 use Rattle.queue.proofs.Range.{bare-same}
 use Rattle.chip.specs.declared.Chip.{Chip}
-use Rattle.chip.specs.Range.{clocksIn, coreIn, chipIn, partsIn}
+use Rattle.chip.specs.Range.{clocksIn, variantIn, coreIn, chipIn, partsIn}
 
-three-and-one : (a b c d : Bool) → holds (a ∷ b ∷ c ∷ d ∷ []) ≡ holds (holds (a ∷ b ∷ c ∷ []) ∷ d ∷ [])
-three-and-one false b c d = refl
-three-and-one true false c d = refl
-three-and-one true true false d = refl
-three-and-one true true true d = refl
+four-and-one : (a b c d e : Bool) → holds (a ∷ b ∷ c ∷ d ∷ e ∷ []) ≡ holds (holds (a ∷ b ∷ c ∷ d ∷ []) ∷ e ∷ [])
+four-and-one false b c d e = refl
+four-and-one true false c d e = refl
+four-and-one true true false d e = refl
+four-and-one true true true false e = refl
+four-and-one true true true true e = refl
 
-pub by-parts : (c : Chip) → partsIn (c .core .clocks) (c .core .accumulator) (c .core .voice) (c .core .selected) (c .queue .registers) (c .queue .head) (c .queue .count) ≡ chipIn c
+pub by-parts : (c : Chip) → partsIn (c .core .clocks) (c .core .accumulator) (c .core .variant) (c .core .voice) (c .core .selected) (c .queue .registers) (c .queue .head) (c .queue .count) ≡ chipIn c
 unfolding chipIn coreIn partsIn
 by-parts c =
-    ap (λ (t : Bool). holds (clocksIn (c .core .clocks) (c .core .accumulator) ∷ voiceIn (c .core .voice) ∷ leb (c .core .selected) 15 ∷ t ∷ [])) (bare-same (c .queue))
-    ∙ three-and-one (clocksIn (c .core .clocks) (c .core .accumulator)) (voiceIn (c .core .voice)) (leb (c .core .selected) 15) (queueIn (c .queue))
+    ap (λ (t : Bool). holds (clocksIn (c .core .clocks) (c .core .accumulator) ∷ variantIn (c .core .variant) ∷ voiceIn (c .core .voice) ∷ leb (c .core .selected) 15 ∷ t ∷ [])) (bare-same (c .queue))
+    ∙ four-and-one (clocksIn (c .core .clocks) (c .core .accumulator)) (variantIn (c .core .variant)) (voiceIn (c .core .voice)) (leb (c .core .selected) 15) (queueIn (c .queue))

@@ -1,4 +1,4 @@
--- The test that answers 22. 01, "What changes shape": "As a caller can hand in any record, calls test it".
+-- The test that answers 22. 01, "What changes shape": "As a caller can hand in any record, calls test it"; 02, request 05, for the variant.
 -- From "stored bytes within masks" to "gate masks to 0x7fff" it is `voiceIn`, on the page of `voice_range`. Assumes nothing.
 use mathlib.Core.Bool.{Bool, true}
 use mathlib.Core.List.{List, [], _∷_}
@@ -27,18 +27,22 @@ clocksIn k accumulator =
     ∷ []
     )
 
+-- 02: "a record with a variant above 2 gives 22"; 13 asks the same of a making.
+unfoldable pub variantIn : ℕ → Bool
+variantIn variant = leb variant 2
+
 -- stored bytes [...] gate masks to 0x7fff, the selection [...] to 15,
 unfoldable pub coreIn : Core → Bool
-coreIn c = holds (clocksIn (c .clocks) (c .accumulator) ∷ voiceIn (c .voice) ∷ leb (c .selected) 15 ∷ [])
+coreIn c = holds (clocksIn (c .clocks) (c .accumulator) ∷ variantIn (c .variant) ∷ voiceIn (c .voice) ∷ leb (c .selected) 15 ∷ [])
 
 -- each waiting write's register to 15, at most 256 waiting, the ring's place below 256.
 unfoldable pub chipIn : Chip → Bool
 chipIn c = holds (coreIn (c .core) ∷ queueIn (c .queue) ∷ [])
 
 -- The same, by the parts of the record that it looks at.
-unfoldable pub partsIn : Clocks → ℕ → Voice → ℕ → List ℕ → ℕ → ℕ → Bool
-partsIn clocks accumulator voice selected registers head count =
-    holds (clocksIn clocks accumulator ∷ voiceIn voice ∷ leb selected 15 ∷ queueIn (bare registers head count) ∷ [])
+unfoldable pub partsIn : Clocks → ℕ → ℕ → Voice → ℕ → List ℕ → ℕ → ℕ → Bool
+partsIn clocks accumulator variant voice selected registers head count =
+    holds (clocksIn clocks accumulator ∷ variantIn variant ∷ voiceIn voice ∷ leb selected 15 ∷ queueIn (bare registers head count) ∷ [])
 
 -- What the test gives, and an inner call asks of its caller: accepted clocks and their quotients, accumulator below the rate.
 pub record CoreInRange (c : Core) : Type 0 where

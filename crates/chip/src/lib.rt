@@ -3,7 +3,7 @@ ghost use mathlib.Core.Path.{_≡_};
 ghost use Rattle.refusals.specs.Numbers.{accepted};
 ghost use Rattle.clocks.specs.Clocks.{clocksNo};
 ghost use Rattle.chip.specs.Clocks.{clocksOf};
-ghost use Rattle.chip.specs.Range.{clocksIn, coreIn, chipIn, partsIn};
+ghost use Rattle.chip.specs.Range.{clocksIn, variantIn, coreIn, chipIn, partsIn};
 use queue::Queue;
 use registers::Voice;
 use three_channels::Channels;
@@ -23,6 +23,7 @@ pub struct Core {
     pub voice: Voice,
     pub channels: Channels,
     pub selected: u8,
+    pub variant: u8,
     pub accumulator: u32,
     pub stamp: u64,
     pub start: u64,
@@ -46,6 +47,13 @@ pub fn clocks_of(master: u32, rate: u32) -> Clocks
     }
 }
 
+// The crate's part, the full-scale part and the 16-step sister part. 02, request 05.
+pub fn variant_in(variant: u8) -> bool
+    ensures { λ r. ⌜ r ≡ variantIn variant ⌝ }
+{
+    variant <= 2
+}
+
 pub fn in_range(chip: Chip) -> bool
     ensures { λ r. ⌜ r ≡ chipIn chip ⌝ }
 {
@@ -62,15 +70,19 @@ pub fn in_range(chip: Chip) -> bool
 pub fn parts_in(
     clocks: Clocks,
     accumulator: u32,
+    variant: u8,
     voice: Voice,
     selected: u8,
     registers: [u8; 256],
     head: usize,
     count: usize,
 ) -> bool
-    ensures { λ r. ⌜ r ≡ partsIn clocks accumulator voice selected registers head count ⌝ }
+    ensures { λ r. ⌜ r ≡ partsIn clocks accumulator variant voice selected registers head count ⌝ }
 {
     if !clocks_in(clocks, accumulator) {
+        return false;
+    }
+    if !variant_in(variant) {
         return false;
     }
     if !voice_range::voice_in(voice) {
@@ -89,6 +101,9 @@ fn core_in(core: Core) -> bool
     ensures { λ r. ⌜ r ≡ coreIn core ⌝ }
 {
     if !clocks_in(core.clocks, core.accumulator) {
+        return false;
+    }
+    if !variant_in(core.variant) {
         return false;
     }
     if !voice_range::voice_in(core.voice) {

@@ -10,14 +10,15 @@ use Rattle.chip.specs.declared.Core.{Core}
 use Rattle.chip.specs.declared.Chip.{Chip}
 
 -- Selection, accumulator, stamp and the next word's start at 0, and the queue empty: so a chip is made, and so reset leaves it.
-abbrev pub atStart : Clocks → Voice → Channels → Chip
-atStart clocks voice channels =
+abbrev pub atStart : Clocks → ℕ → Voice → Channels → Chip
+atStart clocks variant voice channels =
     record {
       core = record {
         clocks = clocks;
         voice = voice;
         channels = channels;
         selected = 0;
+        variant = variant;
         accumulator = 0;
         stamp = 0;
         start = 0;
@@ -43,6 +44,7 @@ withVoice v c =
       voice = v;
       channels = k .channels;
       selected = k .selected;
+      variant = k .variant;
       accumulator = k .accumulator;
       stamp = k .stamp;
       start = k .start;
@@ -59,6 +61,7 @@ withChannels channels c =
       voice = k .voice;
       channels = channels;
       selected = k .selected;
+      variant = k .variant;
       accumulator = k .accumulator;
       stamp = k .stamp;
       start = k .start;
@@ -72,6 +75,7 @@ withSelection selected c =
       voice = k .voice;
       channels = k .channels;
       selected = selected;
+      variant = k .variant;
       accumulator = k .accumulator;
       stamp = k .stamp;
       start = k .start;
@@ -85,6 +89,7 @@ withTimes stamp start c =
       voice = k .voice;
       channels = k .channels;
       selected = k .selected;
+      variant = k .variant;
       accumulator = k .accumulator;
       stamp = stamp;
       start = start;
@@ -98,6 +103,7 @@ afterTicks voice accumulator channels start k =
       voice = voice;
       channels = channels;
       selected = k .selected;
+      variant = k .variant;
       accumulator = accumulator;
       stamp = k .stamp;
       start = start;

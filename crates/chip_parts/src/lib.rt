@@ -9,8 +9,8 @@ use registers::Voice;
 use three_channels::Channels;
 
 // Selection, accumulator, stamp and the next word's start at 0, and the queue empty: so a chip is made, and so reset leaves it.
-pub fn at_start(clocks: Clocks, voice: Voice, channels: Channels) -> Chip
-    ensures { λ r. ⌜ r ≡ atStart clocks voice channels ⌝ }
+pub fn at_start(clocks: Clocks, variant: u8, voice: Voice, channels: Channels) -> Chip
+    ensures { λ r. ⌜ r ≡ atStart clocks variant voice channels ⌝ }
 {
     let queue = Queue::new();
     let core = Core {
@@ -18,6 +18,7 @@ pub fn at_start(clocks: Clocks, voice: Voice, channels: Channels) -> Chip
         voice,
         channels,
         selected: 0,
+        variant,
         accumulator: 0,
         stamp: 0,
         start: 0,

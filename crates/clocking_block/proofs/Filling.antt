@@ -9,6 +9,8 @@ use lib.Seq.{take-all}
 use Rattle.tables.specs.Levels.{levels}
 use Rattle.envelope_wave.specs.declared.Wave.{Wave}
 use Rattle.envelope_wave.specs.Wave.{waveOf}
+use Rattle.level_scale.specs.declared.Scale.{Scale}
+use Rattle.level_scale.specs.Scale.{scaleOf}
 use Rattle.three_channels.specs.declared.Channels.{Channels}
 use Rattle.registers.specs.Range.{VoiceInRange}
 use Rattle.queue_drain.specs.declared.Drained.{Drained}
@@ -32,9 +34,10 @@ use Rattle.clocking_block.proofs.Quiet.{withKept, kept, kept-sounds, wi
 abbrev pub midway : ℕ → Core → Queue → ℕ → Chip
 midway i core q gate = record { core = withKept (kept i core gate) core; queue = q }
 
-pub record Filling (lent : List ℕ) (w : Wave) (c₀ : Chip) (core : Core) (q : Queue) (gate : ℕ) (out₀ out : List ℕ) (ticks i : ℕ) : Type 0 where
+pub record Filling (lent : List ℕ) (w : Wave) (s : Scale) (c₀ : Chip) (core : Core) (q : Queue) (gate : ℕ) (out₀ out : List ℕ) (ticks i : ℕ) : Type 0 where
   pub table : lent ≡ levels
   pub wave : w ≡ waveOf (offsetIn core)
+  pub scale : s ≡ scaleOf (core .variant)
   pub ok : CoreInRange core
   pub queue : QueueInRange q
   pub long : length out ≡ length out₀
@@ -47,14 +50,15 @@ pub record Filling (lent : List ℕ) (w : Wave) (c₀ : Chip) (core : Core) (q :
   pub last : afterWords left (midway i core q gate) ≡ afterWords (length out₀) c₀
   pub sum : ticks + ticksOf left (midway i core q gate) ≡ ticksOf (length out₀) c₀
 
-pub filling-start : {table : List ℕ} {w : Wave} {c : Chip} {out : List ℕ} → table ≡ levels → w ≡ waveOf (offsetIn (c .core)) → CoreInRange (c .core)
+pub filling-start : {table : List ℕ} {w : Wave} {s : Scale} {c : Chip} {out : List ℕ} → table ≡ levels → w ≡ waveOf (offsetIn (c .core)) → s ≡ scaleOf (c .core .variant) → CoreInRange (c .core)
     → QueueInRange (c .queue) → length out ≤ 65536 → c .core .start + length out * c .core .clocks .cycles < 2 ^ 64
-    → Filling table w c (c .core) (c .queue) 0 out out 0 0
+    → Filling table w s c (c .core) (c .queue) 0 out out 0 0
 unfolding kept
-filling-start {table} {w} {c} {out} t e h q p s =
+filling-start {table} {w} {s} {c} {out} t e a h q p z =
     record {
       table = t;
       wave = e;
+      scale = a;
       ok = h;
       queue = q;
       long = refl;
@@ -62,7 +66,7 @@ filling-start {table} {w} {c} {out} t e h q p s =
       few = omega arith;
       left = length out;
       place = omega arith;
-      soon = s;
+      soon = z;
       all = refl;
       last = refl;
       sum = omega arith;
@@ -77,8 +81,8 @@ kept-some (suc n) k gate h = refl
 midway-some : (n : ℕ) {k l : Core} {g h : ℕ} (q : Queue) → 0 < n → k ≡ l → g ≡ h → midway n k q g ≡ record { core = withKept (kept 1 l h) l; queue = q }
 midway-some n {k} {l} {g} {h} q some e a = rw (kept-some n k g some) (rw (e, a))
 
-module _ {table : List ℕ} {w : Wave} {c₀ : Chip} {core : Core} {gate head count : ℕ} {stamps registers values : List ℕ} {out₀ out : List ℕ} {ticks i : ℕ}
-    (f : Filling table w c₀ core (ring stamps registers values head count) gate out₀ out ticks i) where
+module _ {table : List ℕ} {w : Wave} {s : Scale} {c₀ : Chip} {core : Core} {gate head count : ℕ} {stamps registers values : List ℕ} {out₀ out : List ℕ} {ticks i : ℕ}
+    (f : Filling table w s c₀ core (ring stamps registers values head count) gate out₀ out ticks i) where
   abbrev q : Queue
   q = ring stamps registers values head count
 
@@ -155,7 +159,7 @@ module _ {table : List ℕ} {w : Wave} {c₀ : Chip} {core : Core} {gate head co
 
       -- a run more
       pub filling-on : {v : Wave} → v ≡ waveOf (d .voice .generators .envelope .offset)
-          → Filling table v c₀ (leftBy r (withDue (d .voice) core)) (ring stamps registers values (d .head) (d .count)) (r .gate) out₀ out′ (ticks + r .ticks) (r .next)
+          → Filling table v s c₀ (leftBy r (withDue (d .voice) core)) (ring stamps registers values (d .head) (d .count)) (r .gate) out₀ out′ (ticks + r .ticks) (r .next)
       filling-on {v} wave =
           let start : r .start ≡ core .start + many * core .clocks .cycles = ap (λ (k : Core). k .start) (u .core) ∙ far .start in
           let time : core .start + (many * core .clocks .cycles + still * core .clocks .cycles) < 2 ^ 64 = rw add-mul at (rw split at (f .soon)) in
@@ -163,6 +167,7 @@ module _ {table : List ℕ} {w : Wave} {c₀ : Chip} {core : Core} {gate head co
           record {
             table = f .table;
             wave = wave ∙ ap waveOf (sym (ap offsetIn (u .core) ∙ far .shape));
+            scale = f .scale;
             ok = rw (u .core) (far .ok);
             queue = drained-queue;
             long = u .long ∙ f .long;
@@ -204,7 +209,7 @@ module _ {table : List ℕ} {w : Wave} {c₀ : Chip} {core : Core} {gate head co
         λ j. left-of (a j) (u j)
 
     -- the channels keep what the last word left
-    pub filling-kept : 0 < i → {m : Channels} → m ≡ mixedOf (core .channels) (core .voice) gate .channels
+    pub filling-kept : 0 < i → {m : Channels} → m ≡ mixedOf (core .variant) (core .channels) (core .voice) gate .channels
         → record { core = withKept m core; head = head; count = count; ticks = ticks } ≡ blockOf (length out₀) c₀
     unfolding kept
     filling-kept some {m} e = rw e (sym (ap (λ (c : Chip). left-of c ticks) (midway-some i q some refl refl)) ∙ at-end)

@@ -28,20 +28,20 @@ withKept channels k = afterTicks (k .voice) (k .accumulator) channels (k .start)
 -- what they keep of the last of n words, whose gate is known
 unfoldable pub kept : ℕ → Core → ℕ → Channels
 kept zero k gate = k .channels
-kept (suc n) k gate = mixedOf (k .channels) (k .voice) gate .channels
+kept (suc n) k gate = mixedOf (k .variant) (k .channels) (k .voice) gate .channels
 
 -- so kept, they sound as before
-pub kept-sounds : (n : ℕ) (k : Core) (gate : ℕ) (v : Voice) (g : ℕ) → mixedOf (kept n k gate) v g ≡ mixedOf (k .channels) v g
+pub kept-sounds : (n : ℕ) (k : Core) (gate : ℕ) (v : Voice) (g : ℕ) → mixedOf (k .variant) (kept n k gate) v g ≡ mixedOf (k .variant) (k .channels) v g
 unfolding kept mixedOf
 kept-sounds zero k gate v g = refl
-kept-sounds (suc n) k gate v g = mixed-again (k .channels) _ _ _ _ _ _ gate g
+kept-sounds (suc n) k gate v g = mixed-again (k .variant) (k .channels) _ _ _ _ _ _ gate g
 
 -- the core with the due writes applied
 abbrev pub withDue : Voice → Core → Core
 withDue v k = afterTicks v (k .accumulator) (k .channels) (k .start) k
 
 -- one word, from what its drain gives
-word-is : (channels : Channels) (k : Core) (q : Queue) {d : AfterDrain} → ((v : Voice) (g : ℕ) → mixedOf channels v g ≡ mixedOf (k .channels) v g)
+word-is : (channels : Channels) (k : Core) (q : Queue) {d : AfterDrain} → ((v : Voice) (g : ℕ) → mixedOf (k .variant) channels v g ≡ mixedOf (k .variant) (k .channels) v g)
     → drain (endOf k) (k .voice) q ≡ d
     → (let y = withDue (d .voice) k in
     wordOf (withKept channels k) q
@@ -65,7 +65,7 @@ rests end v q h early =
     by-same (q .count) 0 (λ none. drain-none end v q h none)
     (λ some. drain-late end v q h (omega arith) (subst (λ (stamp : ℕ). end < stamp) (first-due q some) early))
 
-module _ (channels : Channels) (k : Core) (q : Queue) {d : AfterDrain} (s : (v : Voice) (g : ℕ) → mixedOf channels v g ≡ mixedOf (k .channels) v g)
+module _ (channels : Channels) (k : Core) (q : Queue) {d : AfterDrain} (s : (v : Voice) (g : ℕ) → mixedOf (k .variant) channels v g ≡ mixedOf (k .variant) (k .channels) v g)
     (e : drain (endOf k) (k .voice) q ≡ d) where
   y : Core
   y = withDue (d .voice) k

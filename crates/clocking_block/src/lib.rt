@@ -37,6 +37,7 @@ pub fn render<'t, 'o>(
 {
     // a const table is rebuilt at each use: copied once, then lent
     let table = tables::level_table();
+    let scale = level_scale::scale_of(before.variant);
     let mut core = before;
     let mut wave = envelope_wave::wave_of(core.voice.generators.envelope.offset);
     let mut head = place;
@@ -53,7 +54,7 @@ pub fn render<'t, 'o>(
         count = drained.count;
         wave = envelope_wave::wave_after(wave, voice.generators.envelope.offset);
         let due = next_due(stamps, head, count);
-        let run = clocking_run::run_words(core, due, &table, wave, out, i);
+        let run = clocking_run::run_words(core, due, &table, wave, scale, out, i);
         let generators = run.generators;
         voice.generators = generators;
         core.voice = voice;
@@ -64,7 +65,13 @@ pub fn render<'t, 'o>(
         i = run.next;
     }
     if i > 0 {
-        let channels = clocking_word::kept_of_word(core.channels, core.voice, gate, &table);
+        let channels = clocking_word::kept_of_word(
+            core.variant,
+            core.channels,
+            core.voice,
+            gate,
+            &table,
+        );
         core.channels = channels;
     }
     Rendered {

@@ -14,8 +14,12 @@ use borrow.Author.Tests.{ltb-true, ltb-false, lt-ltb}
 use Rattle.tables.specs.Levels.{levels}
 use Rattle.envelope_wave.specs.declared.Wave.{Wave}
 use Rattle.envelope_wave.specs.Wave.{waveOf}
+use Rattle.level_scale.specs.declared.Scale.{Scale}
+use Rattle.level_scale.specs.Scale.{scaleOf, sourcesOf, usedOf}
+use Rattle.word_sum.specs.Sum.{sumBy}
+use Rattle.word_sum.proofs.Summing.{sum-mixed}
 use Rattle.envelope.specs.Envelope.{envelopeLevel}
-use Rattle.mixer.specs.Mix.{mixed}
+use Rattle.envelope.proofs.Circling.{envelope-level-lt}
 use Rattle.generators.specs.declared.Generators.{Generators}
 use Rattle.registers.specs.Registers.{withGenerators}
 use Rattle.chip.specs.declared.Core.{Core}
@@ -37,13 +41,14 @@ abbrev LastGate : ℕ → Core → ℕ → Type 0
 LastGate zero c gate = Unit {0}
 LastGate (suc n) c gate = gate ≡ nextTicks (coreAfter n c) .gate
 
-pub record Running (c : Core) (due first : ℕ) (lent : List ℕ) (w : Wave) (out₀ out : List ℕ) (g : Generators) (accumulator start gate ticks i : ℕ) (more : Bool)
+pub record Running (c : Core) (due first : ℕ) (lent : List ℕ) (w : Wave) (s : Scale) (out₀ out : List ℕ) (g : Generators) (accumulator start gate ticks i : ℕ) (more : Bool)
     : Type 0 where
   pub done : ℕ
   pub core : midway c g accumulator start ≡ coreAfter done c
   pub ok : CoreInRange (midway c g accumulator start)
   pub table : lent ≡ levels
   pub wave : w ≡ waveOf (g .envelope .offset)
+  pub scale : s ≡ scaleOf (c .variant)
   pub place : i ≡ first + done
   pub words : take i out ≡ take first out₀ ++ wordsFrom done c
   pub rest : drop i out ≡ drop i out₀
@@ -85,17 +90,19 @@ goes-late false due end r e = absurd (false-is-not r)
 tail-same : (a b : List ℕ) (i : ℕ) → i < length a → i < length b → drop i a ≡ drop i b → drop (suc i) a ≡ drop (suc i) b
 tail-same a b i h k e = ap (drop 1) (sym (drop-cons a i 0 h)) ∙ ap (drop 1) e ∙ ap (drop 1) (drop-cons b i 0 k)
 
-pub running-start : {c : Core} {due first : ℕ} {lent : List ℕ} {w : Wave} {out : List ℕ} → CoreInRange c → lent ≡ levels → w ≡ waveOf (offsetIn c)
+pub running-start : {c : Core} {due first : ℕ} {lent : List ℕ} {w : Wave} {s : Scale} {out : List ℕ} → CoreInRange c → lent ≡ levels → w ≡ waveOf (offsetIn c)
+    → s ≡ scaleOf (c .variant)
     → first < length out → length out ≤ 65536 → c .start + (length out - first) * c .clocks .cycles < 2 ^ 64
-    → Running c due first lent w out out (c .voice .generators) (c .accumulator) (c .start) 0 0 first true
+    → Running c due first lent w s out out (c .voice .generators) (c .accumulator) (c .start) 0 0 first true
 unfolding coreAfter wordsFrom ticksFrom
-running-start {c} {due} {first} {lent} {w} {out} h t v f l s =
+running-start {c} {due} {first} {lent} {w} {s} {out} h t v a f l z =
     record {
       done = 0;
       core = refl;
       ok = h;
       table = t;
       wave = v;
+      scale = a;
       place = omega arith;
       words = sym (append-nil (take first out));
       rest = refl;
@@ -105,7 +112,7 @@ running-start {c} {due} {first} {lent} {w} {out} h t v f l s =
       long = refl;
       room = omega arith;
       size = l;
-      soon = s;
+      soon = z;
       begun = λ _. refl;
       goes = λ _. f;
       stop = λ e. absurd (false-is-not (sym e));
@@ -113,8 +120,8 @@ running-start {c} {due} {first} {lent} {w} {out} h t v f l s =
       ahead = λ n e. absurd (omega arith);
     }
 
-module _ {c : Core} {due first : ℕ} {lent : List ℕ} {w : Wave} {out₀ out : List ℕ} {g : Generators} {accumulator start gate ticks i : ℕ}
-    {again : Bool} (f : Running c due first lent w out₀ out g accumulator start gate ticks i again) (t : again ≡ true) where
+module _ {c : Core} {due first : ℕ} {lent : List ℕ} {w : Wave} {s : Scale} {out₀ out : List ℕ} {g : Generators} {accumulator start gate ticks i : ℕ}
+    {again : Bool} (f : Running c due first lent w s out₀ out g accumulator start gate ticks i again) (t : again ≡ true) where
   -- the next word ends in time
   pub next-soon : start + c .clocks .cycles < 2 ^ 64
   next-soon =
@@ -152,15 +159,18 @@ module _ {c : Core} {due first : ℕ} {lent : List ℕ} {w : Wave} {out₀ out :
     ran-wave = rw (e, ticked-shape) (f .wave)
 
     -- the sum of the parts is the next word
-    pub word-next : {word level : ℕ} {volumed : List ℕ} {halved : List Bool} → word ≡ mixed (c .channels) volumed halved level (r .gate) .word → volumed ≡ volumes (c .voice)
-        → halved ≡ halves (r .generators) → level ≡ envelopeLevel (r .generators .envelope) → word ≡ mixedOf (c .channels) (withGenerators (r .generators) (c .voice)) (r .gate) .word
+    pub word-next : {word level used : ℕ} {volumed sources : List ℕ} {halved : List Bool} → word ≡ sumBy (c .channels) sources halved used (r .gate)
+        → sources ≡ sourcesOf s volumed → volumed ≡ volumes (c .voice) → halved ≡ halves (r .generators) → used ≡ usedOf s level
+        → level ≡ envelopeLevel (r .generators .envelope) → word ≡ mixedOf (c .variant) (c .channels) (withGenerators (r .generators) (c .voice)) (r .gate) .word
     unfolding mixedOf
-    word-next p v h l = rw (p, v, h, l)
+    word-next p d v h u l =
+        rw (p, d, u, f .scale, v, h, l)
+        (sum-mixed (c .variant) (c .channels) _ _ (envelopeLevel (r .generators .envelope)) (r .gate) (envelope-level-lt (ran-ok .voice .generators .envelope)))
 
     -- one word more
-    pub running-on : {word : ℕ} {room more : Bool} → i < length out → word ≡ mixedOf (c .channels) (withGenerators (r .generators) (c .voice)) (r .gate) .word
+    pub running-on : {word : ℕ} {room more : Bool} → i < length out → word ≡ mixedOf (c .variant) (c .channels) (withGenerators (r .generators) (c .voice)) (r .gate) .word
         → room ≡ ltb (i + 1) (length (set out i word)) → more ≡ goesOn room due (start + c .clocks .cycles + c .clocks .cycles)
-        → Running c due first lent w out₀ (set out i word) (r .generators) (r .accumulator) (start + c .clocks .cycles) (r .gate) (ticks + r .ticks) (i + 1) more
+        → Running c due first lent w s out₀ (set out i word) (r .generators) (r .accumulator) (start + c .clocks .cycles) (r .gate) (ticks + r .ticks) (i + 1) more
     unfolding coreAfter nextCore wordsFrom ticksFrom
     running-on {word} {room} {more} h v p m =
         let ran-is : r ≡ nextTicks (coreAfter (f .done) c) = e ∙ ap nextTicks (f .core) in
@@ -177,6 +187,7 @@ module _ {c : Core} {due first : ℕ} {lent : List ℕ} {w : Wave} {out₀ out :
           ok = ran-ok;
           table = f .table;
           wave = ran-wave;
+          scale = f .scale;
           place = omega (arith, f .place);
           words = rw (add-one, take-suc-set, f .words, word-is) (append-assoc (take first out₀) (wordsFrom (f .done) c) (nextWord (coreAfter (f .done) c) ∷ []));
           rest = rest-next;
@@ -198,10 +209,10 @@ module _ {c : Core} {due first : ℕ} {lent : List ℕ} {w : Wave} {out₀ out :
         }
 
 -- a run that goes on no more has a word, and its last gate
-pub running-end : {c : Core} {due first : ℕ} {lent : List ℕ} {w : Wave} {out₀ out : List ℕ} {g : Generators} {accumulator start gate ticks i : ℕ}
-    → {again : Bool} → Running c due first lent w out₀ out g accumulator start gate ticks i again → again ≡ false
+pub running-end : {c : Core} {due first : ℕ} {lent : List ℕ} {w : Wave} {s : Scale} {out₀ out : List ℕ} {g : Generators} {accumulator start gate ticks i : ℕ}
+    → {again : Bool} → Running c due first lent w s out₀ out g accumulator start gate ticks i again → again ≡ false
     → Runs c due first out₀ out (record { generators = g; accumulator = accumulator; start = start; gate = gate; ticks = ticks; next = i })
-running-end {c} {due} {first} {lent} {w} {out₀} {out} {g} {accumulator} {start} {gate} {ticks} {i} f t = ends (f .done) refl
+running-end {c} {due} {first} {lent} {w} {s} {out₀} {out} {g} {accumulator} {start} {gate} {ticks} {i} f t = ends (f .done) refl
   where
     ends : (n : ℕ) → f .done ≡ n → Runs c due first out₀ out (record { generators = g; accumulator = accumulator; start = start; gate = gate; ticks = ticks; next = i })
     ends zero e = absurd (false-is-not (sym t ∙ f .begun e))

@@ -22,7 +22,7 @@ nextVoice c = withGenerators (nextTicks c .generators) (c .voice)
 
 -- the next word
 abbrev pub nextWord : Core → ℕ
-nextWord c = mixedOf (c .channels) (nextVoice c) (nextTicks c .gate) .word
+nextWord c = mixedOf (c .variant) (c .channels) (nextVoice c) (nextTicks c .gate) .word
 
 -- The core after it; its channels are those of before.
 unfoldable pub nextCore : Core → Core

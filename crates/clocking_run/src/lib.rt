@@ -5,12 +5,14 @@ ghost use Prim.Native.Nat.{_+_, _*_, _-_, _^_, _≤_, _<_};
 ghost use lib.ListN.{length};
 ghost use Rattle.tables.specs.Levels.{levels};
 ghost use Rattle.envelope_wave.specs.Wave.{waveOf};
+ghost use Rattle.level_scale.specs.Scale.{scaleOf};
 ghost use Rattle.chip.specs.Range.{CoreInRange};
 ghost use Rattle.clocking_word.specs.Word.{offsetIn};
 ghost use Rattle.clocking_run.specs.Run.{goesOn, Runs};
 use chip::Core;
 use envelope_wave::Wave;
 use generators::Generators;
+use level_scale::Scale;
 
 // What words leave of the chip, and where they stop.
 pub struct Run {
@@ -29,19 +31,21 @@ pub fn run_words(
     due: u64,
     table: &[u16; 32],
     wave: Wave,
+    scale: Scale,
     out: &mut [u16],
     first: usize,
 ) -> Run
     requires { ⌜ CoreInRange core ⌝ }
     requires { ⌜ now table ≡ levels ⌝ }
     requires { ⌜ wave ≡ waveOf (offsetIn core) ⌝ }
+    requires { ⌜ scale ≡ scaleOf (core .variant) ⌝ }
     requires { ⌜ (first < length (now out)) × (length (now out) ≤ 65536) ⌝ }
     requires { ⌜ core .start + (length (now out) - first) * core .clocks .cycles < 2 ^ 64 ⌝ }
     ensures { λ r. ⌜ Runs core due first (now (out .entry)) (now (out .exit)) r ⌝ }
 {
     let clocks = core.clocks;
     let gates = core.voice.gates;
-    let volumes = clocking_word::volumes_of(core.voice);
+    let sources = scale.sources(clocking_word::volumes_of(core.voice));
     let mut generators = core.voice.generators;
     let mut accumulator = core.accumulator;
     let mut start = core.start;
@@ -65,9 +69,9 @@ pub fn run_words(
         let level = generators.envelope.level_in(wave);
         out[i] = word_sum::word(
             core.channels,
-            volumes,
+            sources,
             clocking_word::halves_of(generators),
-            level,
+            scale.used(level),
             gate,
             table,
         );

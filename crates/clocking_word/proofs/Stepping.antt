@@ -47,6 +47,7 @@ pub record Stepped (c : Core) (w : Word) : Type 0 where
   pub core : CoreInRange (w .core)
   pub queue : QueueInRange (w .queue)
   pub clocks : w .core .clocks ≡ c .clocks
+  pub variant : w .core .variant ≡ c .variant
   pub start : w .core .start ≡ endOf c
   pub sum : w .ticks * c .clocks .rate + c .accumulator ≡ c .clocks .internal + w .core .accumulator
   pub few : w .ticks < 268435456
@@ -61,8 +62,9 @@ stepped c q h k =
       core = t .core;
       queue = drain-kept (endOf c) (c .voice) q k;
       clocks = refl;
+      variant = refl;
       start = refl;
       sum = t .sum;
       few = t .few;
-      small = mixed-le _ _ _ _ _ (envelope-level-lt (t .core .voice .generators .envelope));
+      small = mixed-le _ _ _ _ _ _ (envelope-level-lt (t .core .voice .generators .envelope));
     }

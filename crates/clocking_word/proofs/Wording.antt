@@ -32,7 +32,7 @@ module _ (c : Core) (q : Queue) {d : Drained} {r : Ran} (e : d ≡ left c q)
       let v : VoiceInRange (d .voice) = drained-voice c q e h in
       rw f (ticked-in (d .voice .gates) (c .clocks .rate) (c .clocks .internal) (c .accumulator) (v .generators) .envelope)
 
-  pub word-is : {m : Mixed} → m ≡ mixedOf (c .channels) (withGenerators (r .generators) (d .voice)) (r .gate)
+  pub word-is : {m : Mixed} → m ≡ mixedOf (c .variant) (c .channels) (withGenerators (r .generators) (d .voice)) (r .gate)
       → record {
         core = afterWord c (withGenerators (r .generators) (d .voice)) (r .accumulator) (m .channels);
         head = d .head;

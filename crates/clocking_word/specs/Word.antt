@@ -38,10 +38,10 @@ abbrev pub halves : Generators → List Bool
 halves g = isHalved (g .a) ∷ isHalved (g .b) ∷ isHalved (g .c) ∷ []
 
 -- The level is looked up once, from the gate of all ticks; the word is the sum of three channel outputs.
-unfoldable pub mixedOf : Channels → Voice → ℕ → Mixed
-mixedOf channels v gate =
+unfoldable pub mixedOf : ℕ → Channels → Voice → ℕ → Mixed
+mixedOf variant channels v gate =
     let g = v .generators in
-    mixed channels (volumes v) (halves g) (envelopeLevel (g .envelope)) gate
+    mixed variant channels (volumes v) (halves g) (envelopeLevel (g .envelope)) gate
 
 -- What a word leaves, its value and its ticks.
 pub record Word : Type 0 where
@@ -57,7 +57,7 @@ abbrev pub wordFrom : Core → AfterDrain → Word
 wordFrom c d =
     let r = ranOf c (d .voice) in
     let v = withGenerators (r .generators) (d .voice) in
-    let m = mixedOf (c .channels) v (r .gate) in
+    let m = mixedOf (c .variant) (c .channels) v (r .gate) in
     record { core = afterWord c v (r .accumulator) (m .channels); queue = d .queue; word = m .word; ticks = r .ticks }
 
 unfoldable pub wordOf : Core → Queue → Word

@@ -49,7 +49,7 @@ pub fn word<'t, 'l>(
     );
     let generators = ran.generators;
     voice.generators = generators;
-    let mixed = mix_word(core.channels, voice, ran.gate, table);
+    let mixed = mix_word(core.variant, core.channels, voice, ran.gate, table);
     let channels = mixed.channels;
     let mut next = core;
     next.voice = voice;
@@ -66,27 +66,33 @@ pub fn word<'t, 'l>(
 }
 
 // The level is looked up once, from the gate of all ticks.
-fn mix_word(channels: Channels, voice: Voice, gate: u32, table: &[u16; 32]) -> Mixed
+fn mix_word(variant: u8, channels: Channels, voice: Voice, gate: u32, table: &[u16; 32]) -> Mixed
     requires { ⌜ EnvelopeInRange (voice .generators .envelope) ⌝ }
     requires { ⌜ now table ≡ levels ⌝ }
-    ensures { λ r. ⌜ r ≡ mixedOf channels voice gate ⌝ }
+    ensures { λ r. ⌜ r ≡ mixedOf variant channels voice gate ⌝ }
 {
     let level = voice.generators.envelope.level();
     let volumes = volumes_of(voice);
     let halves = halves_of(voice.generators);
-    mixer::mix(channels, volumes, halves, level, gate, table)
+    mixer::mix(variant, channels, volumes, halves, level, gate, table)
 }
 
 // What the channels keep of it, where the word's value is known.
-pub fn kept_of_word(channels: Channels, voice: Voice, gate: u32, table: &[u16; 32]) -> Channels
+pub fn kept_of_word(
+    variant: u8,
+    channels: Channels,
+    voice: Voice,
+    gate: u32,
+    table: &[u16; 32],
+) -> Channels
     requires { ⌜ EnvelopeInRange (voice .generators .envelope) ⌝ }
     requires { ⌜ now table ≡ levels ⌝ }
-    ensures { λ r. ⌜ r ≡ mixedOf channels voice gate .channels ⌝ }
+    ensures { λ r. ⌜ r ≡ mixedOf variant channels voice gate .channels ⌝ }
 {
     let level = voice.generators.envelope.level();
     let volumes = volumes_of(voice);
     let halves = halves_of(voice.generators);
-    mixer::kept(channels, volumes, halves, level, gate, table)
+    mixer::kept(variant, channels, volumes, halves, level, gate, table)
 }
 
 // R8 to R10.

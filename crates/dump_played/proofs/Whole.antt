@@ -23,7 +23,7 @@ use Rattle.chip.specs.Clocks.{clocksOf}
 use Rattle.answers.specs.Answers.{answered}
 use Rattle.answers.specs.declared.Answered.{Answered}
 use Rattle.answers.specs.declared.Blocked.{Blocked}
-use Rattle.calls_making.specs.Making.{withClocks, madeOf, fresh}
+use Rattle.calls_making.specs.Making.{withClocks, madeOf, defaultVariant, fresh}
 use Rattle.calls_words.specs.Blocks.{blockNo, blockPlayed, blocked, blockBuffer}
 use Rattle.block_limits.specs.Limits.{blockNumber}
 use Rattle.laws_in_range.proofs.Parts.{voice-kept}
@@ -151,7 +151,7 @@ module _ (t : List ℕ) (ok : verdictOf t .no ≡ 0) (f : ℕ) (h : f < verdictO
 
 -- the dump's clocks are accepted, so its chip is made of them and not of the default ones
 pub makes : (t : List ℕ) → verdictOf t .no ≡ 0
-    → withClocks (verdictOf t .master) (verdictOf t .rate) ≡ answered 0 (madeOf (clocksOf (verdictOf t .master) (verdictOf t .rate)))
+    → withClocks (verdictOf t .master) (verdictOf t .rate) ≡ answered 0 (madeOf (clocksOf (verdictOf t .master) (verdictOf t .rate)) defaultVariant)
 unfolding withClocks clocksNo
 makes t ok =
     let l = accepted-laid t ok in

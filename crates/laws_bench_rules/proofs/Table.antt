@@ -17,7 +17,7 @@ use Rattle.generators.specs.Reset.{generatorsReset}
 use Rattle.gates.specs.Gates.{gatesFrom, gateOf}
 use Rattle.drums.specs.Drums.{drumOut}
 use Rattle.channel.specs.Channel.{heard, sounded}
-use Rattle.levels.specs.Levels.{levelUsed, gatedLevel, loudnessOf}
+use Rattle.levels.specs.Levels.{fixedLevel, envelopeUsed, levelUsed, gatedLevel, loudnessOf}
 use Rattle.three_channels.specs.Channels.{channelAt, putChannel, setMute, setDrum}
 use Rattle.mixer.specs.Mix.{mixed}
 use Rattle.registers.specs.Registers.{pairAt, tonePeriodSet, noisePeriodSet, gatesSet, envelopePeriodSet, shapeSet, voiceSet, masked, applyRegister}
@@ -31,7 +31,7 @@ use Rattle.clocking_word.specs.Word.{drained, ranOf, mixedOf, wordOf}
 use Rattle.clocking_block.specs.Block.{afterWords, ticksOf, wordsOf}
 use Rattle.clocks.specs.Clocks.{clocksNo}
 use Rattle.voice_range.specs.Range.{bytesIn, toneIn, allOrNone, noiseIn, envelopeIn, generatorsIn, gatesIn, voiceIn}
-use Rattle.chip.specs.Range.{clocksIn, coreIn, chipIn}
+use Rattle.chip.specs.Range.{clocksIn, variantIn, coreIn, chipIn}
 use Rattle.calls_making.specs.Making.{madeOf, fresh, withClocks, resetOf, resetCall}
 use Rattle.calls_registers.specs.Stored.{writeRegister, readRegister}
 use Rattle.calls_channels.specs.ChannelCalls.{setChannelMute, setDrumSampleOverride}
@@ -47,7 +47,7 @@ use Rattle.laws_bench_rules.specs.Setups.{ticks, at44100, shape8, drumAl
 use Rattle.laws_bench_rules.specs.Table.{Table}
 
 pub table : Table
-unfolding ticks at44100 shape8 drumAlone resetAfter31 needless digits decimalOf hexValue allHex hexByte span lineAt startsWith valueAt lineEntryAt masterLineNo rateLineNo wordsLineNo framesLineNo isFrame frameAt clockLines framesFrom sized verdictOf shapeEntry envelopeEntry toneSet toneStep toneTick registerStep outputBy noiseTick nextPosition envelopeTick rowPlace envelopeLevel tick edgesOf toneAt putTone tonesSet powerOnEdges generatorsReset gatesFrom gateOf drumOut heard sounded levelUsed gatedLevel loudnessOf channelAt putChannel setMute setDrum mixed pairAt tonePeriodSet noisePeriodSet gatesSet envelopePeriodSet shapeSet voiceSet masked applyRegister registersFrom voiceReset writesFrom waiting due appliedInOrder registerWrites drain queueIn ticking ticked drained ranOf mixedOf wordOf afterWords ticksOf wordsOf clocksNo clocksIn bytesIn toneIn allOrNone noiseIn envelopeIn generatorsIn gatesIn voiceIn coreIn chipIn madeOf fresh withClocks resetOf resetCall writeRegister readRegister setChannelMute setDrumSampleOverride blockNumber blocked blockBuffer sampled registersWritten frameWrites frameChip framePlace chipBefore frameWords wordsIn spelt linesOf totalText printed mul div ofInt
+unfolding ticks at44100 shape8 drumAlone resetAfter31 needless digits decimalOf hexValue allHex hexByte span lineAt startsWith valueAt lineEntryAt masterLineNo rateLineNo wordsLineNo framesLineNo isFrame frameAt clockLines framesFrom sized verdictOf shapeEntry envelopeEntry toneSet toneStep toneTick registerStep outputBy noiseTick nextPosition envelopeTick rowPlace envelopeLevel tick edgesOf toneAt putTone tonesSet powerOnEdges generatorsReset gatesFrom gateOf drumOut heard sounded fixedLevel envelopeUsed levelUsed gatedLevel loudnessOf channelAt putChannel setMute setDrum mixed pairAt tonePeriodSet noisePeriodSet gatesSet envelopePeriodSet shapeSet voiceSet masked applyRegister registersFrom voiceReset writesFrom waiting due appliedInOrder registerWrites drain queueIn ticking ticked drained ranOf mixedOf wordOf afterWords ticksOf wordsOf clocksNo clocksIn bytesIn toneIn allOrNone noiseIn envelopeIn generatorsIn gatesIn voiceIn variantIn coreIn chipIn madeOf fresh withClocks resetOf resetCall writeRegister readRegister setChannelMute setDrumSampleOverride blockNumber blocked blockBuffer sampled registersWritten frameWrites frameChip framePlace chipBefore frameWords wordsIn spelt linesOf totalText printed mul div ofInt
 table =
     record {
       seed = refl;

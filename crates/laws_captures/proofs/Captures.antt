@@ -13,7 +13,7 @@ use Rattle.chip.proofs.InRange.{core-runs}
 use Rattle.block_limits.proofs.Fits.{span-fits}
 use Rattle.answers.specs.declared.Answered.{Answered}
 use Rattle.bus_writes.specs.declared.BusWrite.{BusWrite}
-use Rattle.calls_making.specs.Making.{madeOf, fresh, withClocks}
+use Rattle.calls_making.specs.Making.{madeOf, defaultVariant, fresh, withClocks}
 use Rattle.dump_words.specs.Words.{linesOf}
 use Rattle.output_lines.specs.Lines.{totalText}
 use Rattle.capture.specs.Checked.{captureOf}
@@ -28,7 +28,7 @@ use Rattle.capture_course.proofs.Claimed.{courses}
 use Rattle.laws_in_range.proofs.CallsInRange.{with-clocks-kept}
 use Rattle.laws_promises.specs.History.{Entry, emptyLedger}
 use Rattle.laws_promises.specs.Demand.{N, Holds}
-use Rattle.laws_promises.proofs.Demand.{demand-3}
+use Rattle.laws_promises.proofs.Demand.{clocks-demand}
 use Rattle.laws_histories.specs.Histories.{values}
 use Rattle.laws_captures.specs.Captures.{courseCalls, dataWrites}
 use Rattle.laws_captures.specs.Claims.{ledgerFor, Stopped, AfterWord, CourseIsCalls, captureLedger, CaptureIsCalls, Captures}
@@ -60,8 +60,8 @@ module _ (master rate : ℕ) (ok : clocksNo master rate ≡ accepted) (n : ℕ) 
   plays : Plays ws c emptyLedger (courseCalls n ws c) (course n ws c)
   plays = course-plays n ws c emptyLedger (with-clocks-kept master rate) (ends-soon master rate n few)
 
-  demanded : Holds master rate (course n ws c .chip) (ledgerFor master rate n ws)
-  demanded = rw (← plays .chip) (demand-3 master rate ok (courseCalls n ws c))
+  demanded : Holds master rate defaultVariant (course n ws c .chip) (ledgerFor master rate n ws)
+  demanded = rw (← plays .chip) (clocks-demand master rate ok (courseCalls n ws c))
 
   numbered : N (ledgerFor master rate n ws) ≡ length (course n ws c .words)
   numbered = sym (length-values (ledgerFor master rate n ws .words)) ∙ ap length (plays .words)

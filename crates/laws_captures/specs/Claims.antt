@@ -9,6 +9,7 @@ use Rattle.refusals.specs.Numbers.{accepted, queueFull}
 use Rattle.clocks.specs.Clocks.{clocksNo}
 use Rattle.queue.specs.Waiting.{waiting}
 use Rattle.answers.specs.Answers.{answered}
+use Rattle.calls_making.specs.Making.{defaultVariant}
 use Rattle.calls_ports.specs.Ports.{bit1Clear}
 use Rattle.bus.specs.Passing.{passWrite}
 use Rattle.bus_writes.specs.declared.BusWrite.{BusWrite}
@@ -61,7 +62,7 @@ pub record CourseIsCalls (master rate n : ℕ) (ws : List BusWrite) : Type 0 whe
   pub words : values (ledgerFor master rate n ws .words) ≡ courseFor master rate n ws .words
   pub counted : N (ledgerFor master rate n ws) ≡ length (courseFor master rate n ws .words)
   -- "Demand 3 holds over it as it stands."
-  pub holds : Holds master rate (courseFor master rate n ws .chip) (ledgerFor master rate n ws)
+  pub holds : Holds master rate defaultVariant (courseFor master rate n ws .chip) (ledgerFor master rate n ws)
   -- The writes are those passed and then those left. Of those passed the data writes are accepted, in order; of the others none.
   pub passed : List BusWrite
   pub split : ws ≡ passed ++ courseFor master rate n ws .rest
@@ -79,7 +80,7 @@ pub record CaptureIsCalls (text : List ℕ) : Type 0 where
   pub plays : courseOf text ≡ courseFor (captureOf text .master) (captureOf text .rate) (captureOf text .words) (writesOf text)
   pub calls : CourseIsCalls (captureOf text .master) (captureOf text .rate) (captureOf text .words) (writesOf text)
   -- "Demand 3 holds over it as it stands."
-  pub holds : Holds (captureOf text .master) (captureOf text .rate) (courseOf text .chip) (captureLedger text)
+  pub holds : Holds (captureOf text .master) (captureOf text .rate) defaultVariant (courseOf text .chip) (captureLedger text)
   -- What is printed: the number of words asked, the ledger's words, and the last line. N is the number of words printed.
   pub prints : printed text
       ≡ totalText (captureOf text .words)

@@ -12,7 +12,7 @@ use Rattle.queue.specs.declared.Write.{Write}
 use Rattle.clocks.specs.Clocks.{clocksNo}
 use Rattle.answers.specs.declared.Answered.{Answered}
 use Rattle.answers.specs.declared.Blocked.{Blocked}
-use Rattle.calls_making.specs.Making.{withClocks}
+use Rattle.calls_making.specs.Making.{defaultVariant, withClocks}
 use Rattle.dump.specs.Checked.{verdictOf}
 use Rattle.dump_frames.specs.Frame.{framePlayed}
 use Rattle.dump_words.specs.Words.{linesOf}
@@ -21,7 +21,7 @@ use Rattle.dump_played.specs.Whole.{valueOf, chipBefore, frameWords, wordsIn, p
 use Rattle.dump_played.proofs.Whole.{chip-range, plays, leaves, fills, makes}
 use Rattle.laws_promises.specs.History.{Call, after, Ledger, emptyLedger, ledger}
 use Rattle.laws_promises.specs.Demand.{N, Holds}
-use Rattle.laws_promises.proofs.Demand.{demand-3}
+use Rattle.laws_promises.proofs.Demand.{clocks-demand}
 use Rattle.laws_histories.specs.Histories.{AllAccepted, values, writeThenRender, madeFor, dumpCalls}
 use Rattle.laws_histories.specs.Claims.{dumpLedger, wholeLedger, DumpIsCalls}
 use Rattle.laws_histories.proofs.Appending.{after-append, ledger-append, accepted-append}
@@ -113,8 +113,8 @@ pub dump-is-calls : (text : List ℕ) → verdictOf text .no ≡ accepted → (f
 dump-is-calls text ok f h =
     let b = played text ok f h in
     let number = clocks-accepted _ _ (ap (λ (a : Answered). a .no) (makes text ok)) in
-    let holds : Holds (verdictOf text .master) (verdictOf text .rate) (chipBefore text f) (dumpLedger text f)
-    = rw (b .chip) at (demand-3 _ _ number (dumpCalls text f))
+    let holds : Holds (verdictOf text .master) (verdictOf text .rate) defaultVariant (chipBefore text f) (dumpLedger text f)
+    = rw (b .chip) at (clocks-demand _ _ number (dumpCalls text f))
     in
     record {
       chip = sym (b .chip);

@@ -7,7 +7,7 @@ use native.Mathlib.Omega.{arith}
 use Rattle.laws.specs.All.{All}
 use Rattle.queue.specs.Waiting.{waiting}
 use Rattle.chip.specs.declared.Chip.{Chip}
-use Rattle.chip.proofs.InRange.{InRange, passes}
+use Rattle.chip.proofs.InRange.{InRange, passes, variant-passes}
 use Rattle.laws_promises.specs.History.{Call, reset, after, Ledger, emptyLedger, ledger}
 use Rattle.laws_promises.specs.Demand.{N, T, Small, Kept}
 use Rattle.laws_promises.proofs.Numbered.{numbered}
@@ -36,7 +36,9 @@ module _ (c : Chip) (h : InRange c) (calls : List Call) where
       let n = r .voice .generators .noise in
       record {
         clocks = s .clocks;
+        variant = s .variant;
         accepted-clocks = h .clocks;
+        accepted-variant = variant-passes (h .variant);
         quotients = quotients (c .core .clocks) (h .internal) (h .cycles);
         begun = begun;
         began = began;

@@ -6,18 +6,17 @@ use Prim.Native.Nat.{ℕ}
 use lib.ListN.{length}
 use Rattle.refusals.specs.Numbers.{accepted}
 use Rattle.laws.proofs.Tests.{by-cond}
-use Rattle.clocks.specs.Clocks.{clocksNo}
 use Rattle.chip.specs.declared.Chip.{Chip}
 use Rattle.chip.specs.Range.{chipIn}
 use Rattle.chip.proofs.InRange.{InRange}
-use Rattle.calls_making.specs.Making.{withClocks, resetCall}
+use Rattle.calls_making.specs.Making.{makingNo, withVariant, resetCall}
 use Rattle.calls_registers.specs.Stored.{writeRegister, loadRegisters}
 use Rattle.calls_ports.specs.Ports.{writePort, writePortImmediate}
 use Rattle.calls_cycles.specs.Cycles.{setCpuCycle, syncSampleCycle, flushPendingWrites}
 use Rattle.calls_effects.specs.Effects.{setTimerIrqState, triggerEnvelope}
 use Rattle.calls_channels.specs.ChannelCalls.{setChannelMute, setDrumSampleOverride}
 use Rattle.calls_words.specs.Blocks.{blocked, sampled}
-use Rattle.laws_in_range.proofs.CallsInRange.{with-clocks-kept}
+use Rattle.laws_in_range.proofs.CallsInRange.{with-variant-kept}
 use Rattle.dump_frames.specs.Frame.{frameLoaded, framePlayed}
 use Rattle.laws_promises.specs.History
 use Rattle.laws_promises.specs.History.{Call, answers, after, emptyLedger, ledger}
@@ -95,9 +94,9 @@ plays-after (p ∷ plays) c t =
     ∙ ap (after (allCalls plays (Histories.leaves p c))) (left p c t)
     ∙ sym (after-append (Histories.callsOf p c) (allCalls plays (Histories.leaves p c)) c)
 
-pub plays-hold : (master rate : ℕ) → clocksNo master rate ≡ accepted → (plays : List Play)
-    → Holds master rate (afterPlays plays (withClocks master rate .chip))
-    (ledger (allCalls plays (withClocks master rate .chip)) (withClocks master rate .chip) emptyLedger)
-plays-hold master rate e plays =
-    let c = withClocks master rate .chip in
-    rw (plays-after plays c (λ _. with-clocks-kept master rate)) (demand-3 master rate e (allCalls plays c))
+pub plays-hold : (master rate variant : ℕ) → makingNo master rate variant ≡ accepted → (plays : List Play)
+    → Holds master rate variant (afterPlays plays (withVariant master rate variant .chip))
+    (ledger (allCalls plays (withVariant master rate variant .chip)) (withVariant master rate variant .chip) emptyLedger)
+plays-hold master rate variant e plays =
+    let c = withVariant master rate variant .chip in
+    rw (plays-after plays c (λ _. with-variant-kept master rate variant)) (demand-3 master rate variant e (allCalls plays c))

@@ -1,6 +1,6 @@
 -- A reset on a chip in range is accepted and begins anew: from there demand 3 holds whole. Assumes nothing.
 use mathlib.Core.List.{List, [], _∷_, _++_}
-use mathlib.Core.Path.{_≡_, refl, sym, ap, _∙_}
+use mathlib.Core.Path.{_≡_, refl, sym, ap, subst, _∙_}
 use Prim.Native.Nat.{ℕ, _*_, _/_}
 use native.Mathlib.Omega.{arith}
 use Rattle.refusals.specs.Numbers.{accepted}
@@ -41,13 +41,14 @@ module _ (c : Chip) (h : InRange c) where
   reset-anew = (refl, waiting-empty)
 
   -- from there the whole demand holds
-  reset-keeps : {master rate : ℕ} → c .core .clocks ≡ clocksOf master rate → Keeps master rate (resetOf c) emptyLedger
+  reset-keeps : {master rate : ℕ} → c .core .clocks ≡ clocksOf master rate → Keeps master rate (c .core .variant) (resetOf c) emptyLedger
   unfolding resetOf
   reset-keeps {master} {rate} e =
       let r = reset-range in
       record {
         range = r;
         clocks = e;
+        of-variant = refl;
         agrees = reset-sounds (c .core .voice) .0;
         kept = record {
           sum = omega arith;
@@ -63,7 +64,7 @@ module _ (c : Chip) (h : InRange c) where
   reset-from-zero = reset-sounds (c .core .voice) .1
 
   reset-demand : {master rate : ℕ} → c .core .clocks ≡ clocksOf master rate → (later : List Call)
-      → Holds master rate (after later (resetOf c)) (ledger later (resetOf c) emptyLedger)
+      → Holds master rate (c .core .variant) (after later (resetOf c)) (ledger later (resetOf c) emptyLedger)
   reset-demand e later =
       let k = reset-keeps e in
       holds (calls-kept later (resetOf c) emptyLedger k) (calls-circle later (resetOf c) emptyLedger (k .range) (λ _. reset-from-zero))
@@ -101,5 +102,7 @@ module _ (c : Chip) (h : InRange c) (earlier later : List Call) where
       record {
         anew = rw reset-left (reset-anew m range .0);
         none = rw reset-left (reset-anew m range .1);
-        holds = rw (reset-chip later, reset-ledger) (reset-demand m range clocks later);
+        holds =
+            subst (λ (v : ℕ). Holds (c .core .clocks .master) (c .core .clocks .rate) v (after (earlier ++ reset ∷ later) c) (ledger (earlier ++ reset ∷ later) c emptyLedger))
+            (calls-stay earlier c h .variant) (rw (reset-chip later, reset-ledger) (reset-demand m range clocks later));
       }

@@ -1,4 +1,4 @@
--- Calls on a chip in range: the clocks stay, and with no reset among the calls the sums and the writes count from its beginning.
+-- Calls on a chip in range: the clocks and the variant stay, and with no reset among the calls the sums and the writes count from its beginning.
 -- Assumes nothing.
 use mathlib.Core.List.{List, [], _∷_, _++_, append-assoc, append-nil}
 use mathlib.Core.Path.{_≡_, refl, _∙_}
@@ -21,7 +21,7 @@ use Rattle.laws_promises.proofs.Deeds.{Still, Deed, rests, flushes, begins, pla
 use Rattle.laws_promises.proofs.DemandKept.{ticks-append, in-range}
 use Rattle.laws_histories.specs.Histories.{NoReset}
 
--- the clocks stay, whatever is called
+-- the clocks and the variant stay, whatever is called
 deed-clocks : {x : Call} {c d : Chip} {l m : Ledger} → InRange c → Deed x c d l m → d .core .clocks ≡ c .core .clocks
 unfolding resetOf
 deed-clocks h (rests s _) = s .clocks
@@ -29,16 +29,25 @@ deed-clocks h (flushes _ e _) = rw e
 deed-clocks h (begins _ e _) = rw e
 deed-clocks {x} {c} h (plays n e _) = rw e (rendered n c h .clocks)
 
+deed-variant : {x : Call} {c d : Chip} {l m : Ledger} → InRange c → Deed x c d l m → d .core .variant ≡ c .core .variant
+unfolding resetOf
+deed-variant h (rests s _) = s .variant
+deed-variant h (flushes _ e _) = rw e
+deed-variant h (begins _ e _) = rw e
+deed-variant {x} {c} h (plays n e _) = rw e (rendered n c h .variant)
+
 pub record Stays (c d : Chip) : Type 0 where
   pub range : InRange d
   pub clocks : d .core .clocks ≡ c .core .clocks
+  pub variant : d .core .variant ≡ c .core .variant
 
 pub calls-stay : (calls : List Call) (c : Chip) → InRange c → Stays c (after calls c)
 unfolding after
-calls-stay [] c h = record { range = h; clocks = refl }
+calls-stay [] c h = record { range = h; clocks = refl; variant = refl }
 calls-stay (x ∷ calls) c h =
     let s = calls-stay calls (answers x c .chip) (in-range x c h) in
-    record { range = s .range; clocks = s .clocks ∙ deed-clocks h (deed x c emptyLedger h) }
+    let d = deed x c emptyLedger h in
+    record { range = s .range; clocks = s .clocks ∙ deed-clocks h d; variant = s .variant ∙ deed-variant h d }
 
 -- with no reset, the sums count from the beginning
 pub record Since (begun c : Chip) (l : Ledger) : Type 0 where

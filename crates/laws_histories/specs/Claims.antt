@@ -13,9 +13,9 @@ use Rattle.queue.specs.Waiting.{waiting}
 use Rattle.queue_flush.specs.Applied.{applyAll}
 use Rattle.chip.specs.declared.Chip.{Chip}
 use Rattle.chip.specs.Clocks.{clocksOf}
-use Rattle.chip.specs.Range.{chipIn}
+use Rattle.chip.specs.Range.{variantIn, chipIn}
 use Rattle.clocks.specs.Clocks.{clocksNo}
-use Rattle.calls_making.specs.Making.{withClocks}
+use Rattle.calls_making.specs.Making.{defaultVariant, makingNo, withVariant}
 use Rattle.calls_cycles.specs.Cycles.{pendingWriteCount}
 use Rattle.dump.specs.Checked.{verdictOf}
 use Rattle.calls_words.specs.Blocks.{blockBuffer}
@@ -93,8 +93,8 @@ pub record DumpIsCalls (text : List ℕ) (f : ℕ) : Type 0 where
   pub each : AllAccepted (dumpCalls text f) (madeFor text)
   pub words : values (dumpLedger text f .words) ≡ wordsIn text f
   pub counted : N (dumpLedger text f) ≡ f * verdictOf text .words
-  -- All that demand 3 says; and as no frame queues a write, nothing waits.
-  pub holds : Holds (verdictOf text .master) (verdictOf text .rate) (chipBefore text f) (dumpLedger text f)
+  -- All that demand 3 says, of the default variant; and as no frame queues a write, nothing waits.
+  pub holds : Holds (verdictOf text .master) (verdictOf text .rate) defaultVariant (chipBefore text f) (dumpLedger text f)
   pub writes : dumpLedger text f .accepted ≡ []
   pub none : waiting (chipBefore text f .queue) ≡ []
 
@@ -109,9 +109,11 @@ pub record FlushApplies (c : Chip) (l : Ledger) : Type 0 where
 -- of an envelope's start (position -64..-1); and `Beyond.agrees`, as the test asks of the noise output only that it is all ones or zeros,
 -- and not by the register's top bit. From a reset on all of the demand holds (`ResetHolds`).
 pub record HandedIn (c : Chip) (calls : List Call) (d : Chip) (l : Ledger) : Type 0 where
-  -- The clocks stay the record's, and those are accepted ones with their quotients.
+  -- The clocks and the variant stay the record's, and those are accepted ones, the clocks with their quotients.
   pub clocks : d .core .clocks ≡ c .core .clocks
+  pub variant : d .core .variant ≡ c .core .variant
   pub accepted-clocks : clocksNo (c .core .clocks .master) (c .core .clocks .rate) ≡ accepted
+  pub accepted-variant : variantIn (c .core .variant) ≡ true
   pub quotients : c .core .clocks ≡ clocksOf (c .core .clocks .master) (c .core .clocks .rate)
   -- T × rate + the accumulator at the beginning = N × internal clock + the accumulator now, which is below the rate.
   pub begun : Chip
@@ -136,7 +138,8 @@ pub record HandedIn (c : Chip) (calls : List Call) (d : Chip) (l : Ledger) : Typ
 pub record ResetHolds (c : Chip) (earlier later : List Call) : Type 0 where
   pub anew : after (earlier ++ reset ∷ []) c .core .accumulator ≡ 0
   pub none : waiting (after (earlier ++ reset ∷ []) c .queue) ≡ []
-  pub holds : Holds (c .core .clocks .master) (c .core .clocks .rate) (after (earlier ++ reset ∷ later) c) (ledger (earlier ++ reset ∷ later) c emptyLedger)
+  pub holds : Holds (c .core .clocks .master) (c .core .clocks .rate) (c .core .variant) (after (earlier ++ reset ∷ later) c)
+      (ledger (earlier ++ reset ∷ later) c emptyLedger)
 
 pub record Histories : Type 0 where
   pub appended : (a b : List Call) (c : Chip) (l : Ledger) → Appended a b c l
@@ -148,9 +151,9 @@ pub record Histories : Type 0 where
       → framePlayed value (length (joined outs)) c .answer .no ≡ accepted → FrameInParts value outs c l
   -- Any calls with frames loaded and played among them come to calls, and demand 3 holds of them.
   pub plays : (plays : List Play) (c : Chip) → OfItsType c → afterPlays plays c ≡ after (allCalls plays c) c
-  pub plays-hold : (master rate : ℕ) → clocksNo master rate ≡ accepted → (plays : List Play)
-      → Holds master rate (afterPlays plays (withClocks master rate .chip))
-      (ledger (allCalls plays (withClocks master rate .chip)) (withClocks master rate .chip) emptyLedger)
+  pub plays-hold : (master rate variant : ℕ) → makingNo master rate variant ≡ accepted → (plays : List Play)
+      → Holds master rate variant (afterPlays plays (withVariant master rate variant .chip))
+      (ledger (allCalls plays (withVariant master rate variant .chip)) (withVariant master rate variant .chip) emptyLedger)
   -- A checked dump, frame by frame; and what is printed of it is the number of words in the ledger, and those words.
   pub dump : (text : List ℕ) → verdictOf text .no ≡ accepted → (f : ℕ) → f ≤ verdictOf text .frames → DumpIsCalls text f
   pub prints : (text : List ℕ) → verdictOf text .no ≡ accepted

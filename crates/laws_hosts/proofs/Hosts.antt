@@ -10,8 +10,8 @@ use Rattle.channel.specs.declared.Drum.{Drum}
 use Rattle.channel.specs.declared.Drum.the-variants.{Off, Sample}
 use Rattle.chip.specs.declared.Chip.{Chip}
 use Rattle.chip.specs.declared.Core.{Core}
-use Rattle.clocks.specs.Clocks.{clocksNo}
-use Rattle.calls_making.specs.Making.{withClocks}
+use Rattle.answers.specs.declared.Answered.{Answered}
+use Rattle.calls_making.specs.Making.{makingNo, withVariant}
 use Rattle.c_record.specs.declared.Record.{Record}
 use Rattle.c_record.specs.Record.{chipOf, recordOf, coreOf, recordCore, channelOf, recordChannel, drumOf, recordDrum}
 use Rattle.c_told.specs.Told.{lentBack}
@@ -20,7 +20,7 @@ use Rattle.laws_promises.specs.History.{Call, answers, after, emptyLedger, ledg
 use Rattle.laws_promises.specs.Demand.{Holds}
 use Rattle.laws_promises.proofs.Numbered.{numbered}
 use Rattle.laws_promises.proofs.Demand.{demand-3}
-use Rattle.laws_promises.proofs.Public.{new-begins, refused-begins}
+use Rattle.laws_promises.proofs.Public.{new-begins, clocks-begin, refused-begins}
 use Rattle.laws_hosts.specs.Hosts.{tells, leftBy, madeRecord, Hosts}
 
 drum-kept : (d : Drum) → drumOf (recordDrum d) ≡ d
@@ -77,16 +77,17 @@ unfolding leftBy after
 follows [] x = refl
 follows (call ∷ calls) x = follows calls (tells call x .chip) ∙ ap (after calls) (one call x .1)
 
-begins : (master rate : ℕ) → chipOf (madeRecord master rate) ≡ withClocks master rate .chip
-begins master rate = kept (withClocks master rate .chip)
+begins : (master rate variant : ℕ) → chipOf (madeRecord master rate variant) ≡ withVariant master rate variant .chip
+begins master rate variant = kept (withVariant master rate variant .chip)
 
 -- the demand's history, call by call in the record
-demand : (master rate : ℕ) → clocksNo master rate ≡ accepted → (calls : List Call)
-    → Holds master rate (chipOf (leftBy calls (madeRecord master rate))) (ledger calls (chipOf (madeRecord master rate)) emptyLedger)
-demand master rate e calls =
-    let first = chipOf (madeRecord master rate) in
-    subst (λ (d : Chip). Holds master rate d (ledger calls first emptyLedger)) (sym (follows calls (madeRecord master rate)))
-    (subst (λ (c : Chip). Holds master rate (after calls c) (ledger calls c emptyLedger)) (sym (begins master rate)) (demand-3 master rate e calls))
+demand : (master rate variant : ℕ) → makingNo master rate variant ≡ accepted → (calls : List Call)
+    → Holds master rate variant (chipOf (leftBy calls (madeRecord master rate variant)))
+    (ledger calls (chipOf (madeRecord master rate variant)) emptyLedger)
+demand master rate variant e calls =
+    let made = madeRecord master rate variant in
+    subst (λ (d : Chip). Holds master rate variant d (ledger calls (chipOf made) emptyLedger)) (sym (follows calls made))
+    (subst (λ (c : Chip). Holds master rate variant (after calls c) (ledger calls c emptyLedger)) (sym (begins master rate variant)) (demand-3 master rate variant e calls))
 
 pub hosts : Hosts
 hosts =
@@ -96,7 +97,8 @@ hosts =
       chip = λ call x. one call x .1;
       follows = follows;
       begins = begins;
+      by-clocks = λ master rate. ap (λ (a : Answered). recordOf (a .chip)) (clocks-begin master rate);
       new = ap recordOf new-begins;
-      refused = λ master rate f. ap recordOf (refused-begins master rate f);
+      refused = λ master rate variant f. ap recordOf (refused-begins master rate variant f);
       demand = demand;
     }

@@ -5,10 +5,9 @@ use mathlib.Core.Path.{_≡_}
 use Prim.Native.Nat.{ℕ}
 use lib.ListN.{length}
 use Rattle.refusals.specs.Numbers.{accepted}
-use Rattle.clocks.specs.Clocks.{clocksNo}
 use Rattle.chip.specs.declared.Chip.{Chip}
 use Rattle.answers.specs.Answers.{answered}
-use Rattle.calls_making.specs.Making.{defaultMaster, defaultRate, fresh, resetCall, withClocks}
+use Rattle.calls_making.specs.Making.{defaultMaster, defaultRate, defaultVariant, fresh, makingNo, resetCall, withClocks, withVariant}
 use Rattle.calls_registers.specs.Stored.{dumpRegisters, loadRegisters, readRegister, writeRegister}
 use Rattle.calls_ports.specs.Ports.{readPort, writePort, writePortImmediate}
 use Rattle.calls_cycles.specs.Cycles.{cpuCycle, flushPendingWrites, pendingWriteCount, setCpuCycle, syncSampleCycle}
@@ -62,8 +61,8 @@ leftBy [] x = x
 leftBy (call ∷ calls) x = leftBy calls (tells call x .chip)
 
 -- the record that a making writes
-abbrev pub madeRecord : ℕ → ℕ → Record
-madeRecord master rate = newRecord (withClocks master rate) .chip
+abbrev pub madeRecord : ℕ → ℕ → ℕ → Record
+madeRecord master rate variant = newRecord (withVariant master rate variant) .chip
 
 pub record Hosts : Type 0 where
   -- A chip that is put into a record is had from it again. (Not the other way: a drum that is off forgets its level.)
@@ -74,10 +73,14 @@ pub record Hosts : Type 0 where
   pub chip : (call : Call) (x : Record) → chipOf (tells call x .chip) ≡ answers call (chipOf x) .chip
   -- So after any calls the record holds the chip after those calls.
   pub follows : (calls : List Call) (x : Record) → chipOf (leftBy calls x) ≡ after calls (chipOf x)
-  -- A making's record holds the chip that is made. A new one is that of the default clocks, and so is one of refused clocks.
-  pub begins : (master rate : ℕ) → chipOf (madeRecord master rate) ≡ withClocks master rate .chip
-  pub new : newRecord (answered accepted fresh) .chip ≡ madeRecord defaultMaster defaultRate
-  pub refused : (master rate : ℕ) → (clocksNo master rate ≡ accepted → ⊥) → madeRecord master rate ≡ madeRecord defaultMaster defaultRate
-  -- Demand 3 holds, whole, of the chip in a host's record over any calls since a making with accepted clocks.
-  pub demand : (master rate : ℕ) → clocksNo master rate ≡ accepted → (calls : List Call)
-      → Holds master rate (chipOf (leftBy calls (madeRecord master rate))) (ledger calls (chipOf (madeRecord master rate)) emptyLedger)
+  -- A making's record holds the chip that is made; by clocks alone it is that of the default variant. A new one is that of the default
+  -- clocks and variant, and so is what a refused making writes.
+  pub begins : (master rate variant : ℕ) → chipOf (madeRecord master rate variant) ≡ withVariant master rate variant .chip
+  pub by-clocks : (master rate : ℕ) → newRecord (withClocks master rate) .chip ≡ madeRecord master rate defaultVariant
+  pub new : newRecord (answered accepted fresh) .chip ≡ madeRecord defaultMaster defaultRate defaultVariant
+  pub refused : (master rate variant : ℕ) → (makingNo master rate variant ≡ accepted → ⊥)
+      → madeRecord master rate variant ≡ madeRecord defaultMaster defaultRate defaultVariant
+  -- Demand 3 holds, whole, of the chip in a host's record over any calls since an accepted making.
+  pub demand : (master rate variant : ℕ) → makingNo master rate variant ≡ accepted → (calls : List Call)
+      → Holds master rate variant (chipOf (leftBy calls (madeRecord master rate variant)))
+      (ledger calls (chipOf (madeRecord master rate variant)) emptyLedger)

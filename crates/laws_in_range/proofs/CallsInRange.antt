@@ -2,7 +2,7 @@
 use mathlib.Core.Bool.{Bool}
 use mathlib.Core.List.{List}
 use mathlib.Core.Path.{_≡_, refl}
-use Prim.Native.Nat.{ℕ, zero, suc, _%_}
+use Prim.Native.Nat.{ℕ, zero, suc, _%_, _≤_}
 use native.Mathlib.Omega.{arith}
 use lib.Dec.{leb, eqb}
 use Rattle.laws.proofs.Tests.{by-cond, by-eq}
@@ -27,7 +27,8 @@ use Rattle.clocks.proofs.Accepted.{accepts}
 use Rattle.chip.proofs.InRange.{InRange, core-runs}
 use Rattle.answers.specs.declared.Answered.{Answered}
 use Rattle.answers.specs.declared.Blocked.{Blocked}
-use Rattle.calls_making.specs.Making.{madeOf, defaultMaster, defaultRate, fresh, withClocks, resetOf, resetCall}
+use Rattle.calls_making.specs.Making.{madeOf, defaultMaster, defaultRate, defaultVariant, fresh, makingNo, withClocks, withVariant, resetOf, resetCall}
+use Rattle.calls_making.proofs.Makings.{clocks-accepted, variant-accepted, default-variant}
 use Rattle.calls_registers.specs.Stored.{writeRegister, loadRegisters}
 use Rattle.calls_ports.specs.Ports.{bit1Clear, stamped, writePort, writePortImmediate}
 use Rattle.calls_cycles.specs.Cycles.{setCpuCycle, syncSampleCycle, flushPendingWrites}
@@ -37,14 +38,15 @@ use Rattle.calls_words.specs.Blocks.{blockNo, blocked, sampled}
 use Rattle.laws_in_range.proofs.Parts.{voice-kept, queue-kept, selection-kept, times-kept, channels-kept, chosen-kept}
 
 -- a new chip
-pub made-kept : (master rate : ℕ) → clocksNo master rate ≡ 0 → InRange (madeOf (clocksOf master rate))
+pub made-kept : (master rate variant : ℕ) → clocksNo master rate ≡ 0 → variant ≤ 2 → InRange (madeOf (clocksOf master rate) variant)
 unfolding madeOf
-made-kept master rate e =
+made-kept master rate variant e v =
     record {
       clocks = e;
       internal = refl;
       cycles = refl;
       accumulator = accepts master rate e .some;
+      variant = v;
       voice = new-in;
       selected = omega arith;
       queue = empty-kept;
@@ -52,12 +54,16 @@ made-kept master rate e =
 
 pub fresh-kept : InRange fresh
 unfolding fresh clocksNo
-fresh-kept = made-kept defaultMaster defaultRate refl
+fresh-kept = made-kept defaultMaster defaultRate defaultVariant refl (omega arith)
+
+pub with-variant-kept : (master rate variant : ℕ) → InRange (withVariant master rate variant .chip)
+unfolding withVariant
+with-variant-kept master rate variant =
+    by-eq (λ (x : Answered). InRange (x .chip)) (makingNo master rate variant) 0
+    (λ e. made-kept master rate variant (clocks-accepted master rate variant e) (variant-accepted master rate variant e)) (λ _. fresh-kept)
 
 pub with-clocks-kept : (master rate : ℕ) → InRange (withClocks master rate .chip)
-unfolding withClocks
-with-clocks-kept master rate =
-    by-eq (λ (x : Answered). InRange (x .chip)) (clocksNo master rate) 0 (λ e. made-kept master rate e) (λ _. fresh-kept)
+with-clocks-kept master rate = rw (default-variant master rate) (with-variant-kept master rate defaultVariant)
 
 module _ {c : Chip} (h : InRange c) where
   pub reset-kept : InRange (resetCall c .chip)
@@ -69,6 +75,7 @@ module _ {c : Chip} (h : InRange c) where
         internal = h .internal;
         cycles = h .cycles;
         accumulator = accepts _ _ (h .clocks) .some;
+        variant = h .variant;
         voice = reset-in (c .core .voice) (h .voice .generators .noise .period);
         selected = omega arith;
         queue = empty-kept;
@@ -158,6 +165,7 @@ word-kept {c} h =
       internal = h .internal;
       cycles = h .cycles;
       accumulator = s .core .run .under;
+      variant = h .variant;
       voice = s .core .voice;
       selected = h .selected;
       queue = s .queue;

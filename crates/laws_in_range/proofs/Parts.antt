@@ -20,6 +20,7 @@ module _ {c : Chip} (h : InRange c) where
         internal = h .internal;
         cycles = h .cycles;
         accumulator = h .accumulator;
+        variant = h .variant;
         voice = k;
         selected = h .selected;
         queue = h .queue;
@@ -32,6 +33,7 @@ module _ {c : Chip} (h : InRange c) where
         internal = h .internal;
         cycles = h .cycles;
         accumulator = h .accumulator;
+        variant = h .variant;
         voice = h .voice;
         selected = h .selected;
         queue = k;
@@ -44,6 +46,7 @@ module _ {c : Chip} (h : InRange c) where
         internal = h .internal;
         cycles = h .cycles;
         accumulator = h .accumulator;
+        variant = h .variant;
         voice = h .voice;
         selected = k;
         queue = h .queue;
@@ -56,6 +59,7 @@ module _ {c : Chip} (h : InRange c) where
         internal = h .internal;
         cycles = h .cycles;
         accumulator = h .accumulator;
+        variant = h .variant;
         voice = h .voice;
         selected = h .selected;
         queue = h .queue;
@@ -68,6 +72,7 @@ module _ {c : Chip} (h : InRange c) where
         internal = h .internal;
         cycles = h .cycles;
         accumulator = h .accumulator;
+        variant = h .variant;
         voice = h .voice;
         selected = h .selected;
         queue = h .queue;

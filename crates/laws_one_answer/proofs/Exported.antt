@@ -7,6 +7,7 @@ exported =
     record {
       new = λ h x y. by-chip (h .𝓤);
       with-clocks = λ h x y. by-chip (h .𝓤);
+      with-variant = λ h x y. by-chip (h .𝓤);
       reset = λ h x y. by-chip (h .𝓤);
       write-register = λ h x y. by-chip (h .𝓤);
       load-registers = λ h x y. by-chip (h .𝓤);

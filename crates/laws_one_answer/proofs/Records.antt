@@ -16,6 +16,7 @@ held =
       record-channel = λ h x y. by-answer (h .𝓤);
       new = λ h x y. by-answer (h .𝓤);
       with-clocks = λ h x y. by-answer (h .𝓤);
+      with-variant = λ h x y. by-answer (h .𝓤);
       reset = λ h x y. by-answer (h .𝓤);
       compute-next-sample = λ h x y. by-answer (h .𝓤);
       block = λ h x y. by-buffer (h .𝓤) (λ w. (tt, (tt, (tt, (w, (tt, (tt, (tt, (tt, tt)))))))));

@@ -1,6 +1,7 @@
 -- Every call of `calls` is settled (`Settled`). Assumes nothing.
 use Rattle.calls.proofs.new
 use Rattle.calls.proofs.with_clocks as with-clocks
+use Rattle.calls.proofs.with_variant as with-variant
 use Rattle.calls.proofs.reset
 use Rattle.calls.proofs.write_register as write-register
 use Rattle.calls.proofs.load_registers as load-registers
@@ -28,6 +29,7 @@ use Rattle.laws_one_answer.specs.Settled.{Settles}
 pub record ByValue : Type 2 where
   pub new : Settles new.ended (λ M. new.clauses)
   pub with-clocks : Settles with-clocks.ended (λ M. with-clocks.clauses)
+  pub with-variant : Settles with-variant.ended (λ M. with-variant.clauses)
   pub reset : Settles reset.ended (λ M. reset.clauses)
   pub write-register : Settles write-register.ended (λ M. write-register.clauses)
   pub load-registers : Settles load-registers.ended (λ M. load-registers.clauses)

@@ -1,6 +1,7 @@
 -- Every call of `c_interface` is settled, what it leaves in the lent record and the lent buffer included (`Settled`). Assumes nothing.
 use Rattle.c_interface.proofs.ym2149_new as new
 use Rattle.c_interface.proofs.ym2149_with_clocks as with-clocks
+use Rattle.c_interface.proofs.ym2149_with_variant as with-variant
 use Rattle.c_interface.proofs.ym2149_reset as reset
 use Rattle.c_interface.proofs.ym2149_write_register as write-register
 use Rattle.c_interface.proofs.ym2149_load_registers as load-registers
@@ -28,6 +29,7 @@ use Rattle.laws_one_answer.specs.Settled.{Settles}
 pub record Exported : Type 2 where
   pub new : Settles new.ended (λ M. new.clauses)
   pub with-clocks : Settles with-clocks.ended (λ M. with-clocks.clauses)
+  pub with-variant : Settles with-variant.ended (λ M. with-variant.clauses)
   pub reset : Settles reset.ended (λ M. reset.clauses)
   pub write-register : Settles write-register.ended (λ M. write-register.clauses)
   pub load-registers : Settles load-registers.ended (λ M. load-registers.clauses)

@@ -42,6 +42,12 @@ use Rattle.clocking_generators.proofs.Turning.generators as turning-generators
 use Rattle.gates.proofs.Gates.from_register as gates-from-register
 use Rattle.gates.proofs.Gates.gate as gates-gate
 use Rattle.levels.proofs.level_used as level-used
+use Rattle.levels.proofs.fixed_level as fixed-level
+use Rattle.levels.proofs.envelope_used as envelope-used
+use Rattle.level_scale.proofs.scale_of as scale-of
+use Rattle.level_scale.proofs.Scale.sources as scale-sources
+use Rattle.level_scale.proofs.Scale.used as scale-used
+use Rattle.level_scale.proofs.picked
 use Rattle.drums.proofs.drum_out as drum-out
 use Rattle.levels.proofs.loudness
 use Rattle.levels.proofs.gated_level as gated-level
@@ -90,6 +96,7 @@ use Rattle.clocks.proofs.master_no as master-no
 use Rattle.clocks.proofs.rate_no as rate-no
 use Rattle.chip.proofs.clocks_of as clocks-of
 use Rattle.voice_range.proofs.voice_in as voice-in
+use Rattle.chip.proofs.variant_in as variant-in
 use Rattle.chip.proofs.in_range as in-range
 use Rattle.answers.proofs.accepted
 use Rattle.answers.proofs.refused
@@ -144,6 +151,12 @@ pub record Parts : Type 2 where
   pub gates-from-register : Settles gates-from-register.ended (λ M. gates-from-register.clauses)
   pub gates-gate : Settles gates-gate.ended (λ M. gates-gate.clauses)
   pub level-used : Settles level-used.ended (λ M. level-used.clauses)
+  pub fixed-level : Settles fixed-level.ended (λ M. fixed-level.clauses)
+  pub envelope-used : Settles envelope-used.ended (λ M. envelope-used.clauses)
+  pub scale-of : Settles scale-of.ended (λ M. scale-of.clauses)
+  pub scale-sources : Settles scale-sources.ended (λ M. scale-sources.clauses)
+  pub scale-used : Settles scale-used.ended (λ M. scale-used.clauses)
+  pub picked : Settles picked.ended (λ M. picked.clauses)
   pub drum-out : Settles drum-out.ended (λ M. drum-out.clauses)
   pub loudness : Settles loudness.ended (λ M. loudness.clauses)
   pub gated-level : Settles gated-level.ended (λ M. gated-level.clauses)
@@ -192,6 +205,7 @@ pub record Parts : Type 2 where
   pub rate-no : Settles rate-no.ended (λ M. rate-no.clauses)
   pub clocks-of : Settles clocks-of.ended (λ M. clocks-of.clauses)
   pub voice-in : Settles voice-in.ended (λ M. voice-in.clauses)
+  pub variant-in : Settles variant-in.ended (λ M. variant-in.clauses)
   pub in-range : Settles in-range.ended (λ M. in-range.clauses)
   pub accepted : Settles accepted.ended (λ M. accepted.clauses)
   pub refused : Settles refused.ended (λ M. refused.clauses)

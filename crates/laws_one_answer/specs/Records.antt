@@ -10,6 +10,7 @@ use Rattle.c_record.proofs.record_core as record-core
 use Rattle.c_record.proofs.record_channel as record-channel
 use Rattle.c_making.proofs.new
 use Rattle.c_making.proofs.with_clocks as with-clocks
+use Rattle.c_making.proofs.with_variant as with-variant
 use Rattle.c_calls.proofs.reset
 use Rattle.c_words.proofs.compute_next_sample as compute-next-sample
 use Rattle.c_blocks.proofs.block
@@ -27,6 +28,7 @@ pub record Held : Type 2 where
   pub record-channel : Settles record-channel.ended (λ M. record-channel.clauses)
   pub new : Settles new.ended (λ M. new.clauses)
   pub with-clocks : Settles with-clocks.ended (λ M. with-clocks.clauses)
+  pub with-variant : Settles with-variant.ended (λ M. with-variant.clauses)
   pub reset : Settles reset.ended (λ M. reset.clauses)
   pub compute-next-sample : Settles compute-next-sample.ended (λ M. compute-next-sample.clauses)
   pub block : Settles block.ended (λ M. block.clauses)

@@ -8,12 +8,13 @@ use Rattle.laws.specs.All.{All}
 use Rattle.clocks.specs.Clocks.{clocksNo}
 use Rattle.chip.specs.declared.Chip.{Chip}
 use Rattle.chip.specs.declared.Clocks.{Clocks}
+use Rattle.chip.specs.Range.{variantIn}
 use Rattle.chip.proofs.InRange.{InRange, passes}
 use Rattle.chip_parts.specs.Parts.{withTimes}
 use Rattle.answers.specs.Answers.{answered}
-use Rattle.calls_making.specs.Making.{madeOf, defaultMaster, defaultRate, fresh, withClocks}
+use Rattle.calls_making.specs.Making.{madeOf, defaultMaster, defaultRate, defaultVariant, fresh, makingNo, withVariant}
 use Rattle.calls_cycles.specs.Cycles.{syncSampleCycle}
-use Rattle.laws_in_range.proofs.CallsInRange.{fresh-kept, with-clocks-kept, sync-sample-cycle-kept}
+use Rattle.laws_in_range.proofs.CallsInRange.{fresh-kept, with-variant-kept, sync-sample-cycle-kept}
 use Rattle.laws_promises.specs.History.{Call, answers, after, emptyLedger, ledger}
 use Rattle.laws_promises.proofs.Demand.{demand-3}
 use Rattle.laws_promises.proofs.Public.{new-begins, refused-begins}
@@ -22,17 +23,18 @@ use Rattle.laws_one_tick.specs.Claims.{AlwaysTickAWord, clockRate, atIts
 use Rattle.laws_one_tick.proofs.Ticks.{AtClock, tick-a-word}
 use Rattle.laws_one_tick.proofs.Ends.{words-end}
 
-at-its-clock : (master : ℕ) → clocksNo master (clockRate master) ≡ accepted → AlwaysTickAWord (atItsClock master)
+at-its-clock : (master variant : ℕ) → makingNo master (clockRate master) variant ≡ accepted → AlwaysTickAWord (atItsClock master variant)
 unfolding after
-at-its-clock master e calls =
+at-its-clock master variant e calls =
     let rate = clockRate master in
-    let same : AtClock (atItsClock master) = rw (demand-3 master rate e [] .beyond .clocks) in
-    tick-a-word (atItsClock master) (with-clocks-kept master rate) same calls rate (demand-3 master rate e calls .kept .sum)
+    let c = atItsClock master variant in
+    let same : AtClock c = rw (demand-3 master rate variant e [] .beyond .clocks) in
+    tick-a-word c (with-variant-kept master rate variant) same calls rate (demand-3 master rate variant e calls .kept .sum)
 
 -- the default rate is the internal clock of the default master
-default : AlwaysTickAWord (withClocks defaultMaster defaultRate .chip)
-unfolding clocksNo
-default = at-its-clock defaultMaster refl
+default : AlwaysTickAWord (withVariant defaultMaster defaultRate defaultVariant .chip)
+unfolding makingNo clocksNo variantIn
+default = at-its-clock defaultMaster defaultVariant refl
 
 -- a chip synced at 0
 module _ (c : Chip) (h : InRange c) where
@@ -65,6 +67,6 @@ one-tick =
     record {
       at-its-clock = at-its-clock;
       default = rw new-begins default;
-      refused = λ master rate f. rw (refused-begins master rate f) default;
+      refused = λ master rate variant f. rw (refused-begins master rate variant f) default;
       ends = default-ends;
     }

@@ -6,9 +6,8 @@ use Prim.Native.Nat.{ℕ, _+_, _*_, _/_}
 use lib.ListN.{length}
 use Rattle.refusals.specs.Numbers.{accepted}
 use Rattle.laws.specs.All.{All}
-use Rattle.clocks.specs.Clocks.{clocksNo}
 use Rattle.chip.specs.declared.Chip.{Chip}
-use Rattle.calls_making.specs.Making.{fresh, withClocks}
+use Rattle.calls_making.specs.Making.{fresh, makingNo, withVariant}
 use Rattle.calls_words.specs.Blocks.{blocked}
 use Rattle.laws_promises.specs.History.{Call, sync-sample-cycle, answers, after, Entry, Ledger, emptyLedger, ledger}
 use Rattle.laws_promises.specs.Demand.{N, T}
@@ -32,8 +31,8 @@ AlwaysTickAWord c = (calls : List Call) → TickAWord (after calls c) (ledger ca
 abbrev pub clockRate : ℕ → ℕ
 clockRate master = master / 8
 
-abbrev pub atItsClock : ℕ → Chip
-atItsClock master = withClocks master (clockRate master) .chip
+abbrev pub atItsClock : ℕ → ℕ → Chip
+atItsClock master variant = withVariant master (clockRate master) variant .chip
 
 -- a chip synced at 0; and calls that are no sync
 abbrev pub syncedAt0 : Chip → Chip
@@ -51,11 +50,11 @@ abbrev pub defaultCycles : ℕ
 defaultCycles = 32
 
 pub record OneTick : Type 0 where
-  -- On a chip whose rate is its internal clock every word takes exactly one tick and leaves the accumulator 0.
-  pub at-its-clock : (master : ℕ) → clocksNo master (clockRate master) ≡ accepted → AlwaysTickAWord (atItsClock master)
+  -- On a chip whose rate is its internal clock, of any variant, every word takes exactly one tick and leaves the accumulator 0.
+  pub at-its-clock : (master variant : ℕ) → makingNo master (clockRate master) variant ≡ accepted → AlwaysTickAWord (atItsClock master variant)
   -- So on a default chip N words are N ticks, as `new` gives it and as a refused making leaves it.
   pub default : AlwaysTickAWord fresh
-  pub refused : (master rate : ℕ) → (clocksNo master rate ≡ accepted → ⊥) → AlwaysTickAWord (withClocks master rate .chip)
+  pub refused : (master rate variant : ℕ) → (makingNo master rate variant ≡ accepted → ⊥) → AlwaysTickAWord (withVariant master rate variant .chip)
   -- And from a sync at 0 its word k ends at 32 × k, whatever calls come between the words but another sync. (A reset begins at 0 too, and
   -- the words are counted from there.)
   pub ends : (calls later : List Call) → All NoSync later

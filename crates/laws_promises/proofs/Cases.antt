@@ -14,7 +14,7 @@ use Rattle.power_on.specs.Seed.{seeded, powerOnEdges}
 use Rattle.generators.specs.Reset.{generatorsReset}
 use Rattle.gates.specs.Gates.{gatesFrom, gateOf}
 use Rattle.channel.specs.Channel.{heard, sounded}
-use Rattle.levels.specs.Levels.{levelUsed, gatedLevel, loudnessOf}
+use Rattle.levels.specs.Levels.{fixedLevel, envelopeUsed, levelUsed, gatedLevel, loudnessOf}
 use Rattle.mixer.specs.Mix.{mixed}
 use Rattle.registers.specs.Registers.{pairAt, tonePeriodSet, noisePeriodSet, gatesSet, envelopePeriodSet, shapeSet, voiceSet, masked, applyRegister}
 use Rattle.all_registers.specs.Reset.{voiceReset}
@@ -28,7 +28,7 @@ use Rattle.clocking_block.specs.Block.{afterWords, ticksOf}
 use Rattle.clocks.specs.Clocks.{clocksNo}
 use Rattle.voice_range.specs.Range.{bytesIn, toneIn, allOrNone, noiseIn, envelopeIn, generatorsIn, gatesIn, voiceIn}
 use Rattle.chip.specs.declared.Chip.{Chip}
-use Rattle.chip.specs.Range.{clocksIn, coreIn, chipIn}
+use Rattle.chip.specs.Range.{clocksIn, variantIn, coreIn, chipIn}
 use Rattle.calls_making.specs.Making.{madeOf, withClocks, resetOf, resetCall}
 use Rattle.calls_ports.specs.Ports.{writePort}
 use Rattle.calls_cycles.specs.Cycles.{setCpuCycle, syncSampleCycle, flushPendingWrites}
@@ -36,7 +36,7 @@ use Rattle.calls_words.specs.Blocks.{blocked, sampled}
 use Rattle.block_limits.specs.Limits.{blockNumber}
 use Rattle.laws_promises.specs.History.{Call, write-port, set-cpu-cycle, sync-sample-cycle, flush-pending-writes, reset, compute-next-sample, block, answers, after, Entry, entries, emptyLedger, enters, entered, ledger}
 use Rattle.laws_promises.specs.Demand.{positionOf, reach, Holds}
-use Rattle.laws_promises.proofs.Demand.{demand-3}
+use Rattle.laws_promises.proofs.Demand.{clocks-demand}
 
 -- the chip that they begin on
 abbrev at44100 : Chip
@@ -60,9 +60,9 @@ abbrev late-then-early : List Call
 late-then-early = set-cpu-cycle 500 ∷ write-port 2 1 ∷ set-cpu-cycle 100 ∷ write-port 2 2 ∷ []
 
 -- the demand at this history
-pub held : Holds 2000000 44100 (after late-then-early at44100) (ledger late-then-early at44100 emptyLedger)
+pub held : Holds 2000000 44100 0 (after late-then-early at44100) (ledger late-then-early at44100 emptyLedger)
 unfolding clocksNo
-held = demand-3 2000000 44100 refl late-then-early
+held = clocks-demand 2000000 44100 refl late-then-early
 
 pub cases : (map (λ (w : Entry). w .ticks) (words four-words) ≡ 6 ∷ 6 ∷ 6 ∷ 5 ∷ []) × (after four-words at44100 .core .accumulator ≡ 14300)
     × (served (late-then-early ++ three-words) ≡ (181, 0) ∷ (362, 0) ∷ (543, 2) ∷ [])
@@ -73,5 +73,5 @@ pub cases : (map (λ (w : Entry). w .ticks) (words four-words) ≡ 6 ∷ 6 ∷ 6
     × (ledger (late-then-early ++ reset ∷ compute-next-sample ∷ []) at44100 emptyLedger .accepted ≡ [])
     × (ledger (write-port 0 13 ∷ write-port 2 8 ∷ three-words) at44100 emptyLedger .restarted ≡ true)
     × (positionOf (after (write-port 0 13 ∷ write-port 2 8 ∷ four-words) at44100) ≡ negsuc 40)
-unfolding shapeEntry envelopeEntry toneSet toneStep toneTick registerStep outputBy noiseTick nextPosition envelopeTick rowPlace envelopeLevel tick edgesOf toneAt putTone tonesSet seeded powerOnEdges generatorsReset gatesFrom gateOf heard sounded levelUsed gatedLevel loudnessOf mixed pairAt tonePeriodSet noisePeriodSet gatesSet envelopePeriodSet shapeSet voiceSet masked applyRegister voiceReset writesFrom waiting due late appliedInOrder registerWrites push drain queueIn ticking ticked drained ranOf mixedOf wordOf afterWords ticksOf clocksNo clocksIn bytesIn toneIn allOrNone noiseIn envelopeIn generatorsIn gatesIn voiceIn coreIn chipIn madeOf withClocks resetOf resetCall writePort setCpuCycle syncSampleCycle flushPendingWrites blockNumber blocked sampled answers after entries enters entered ledger reach
+unfolding shapeEntry envelopeEntry toneSet toneStep toneTick registerStep outputBy noiseTick nextPosition envelopeTick rowPlace envelopeLevel tick edgesOf toneAt putTone tonesSet seeded powerOnEdges generatorsReset gatesFrom gateOf heard sounded fixedLevel envelopeUsed levelUsed gatedLevel loudnessOf mixed pairAt tonePeriodSet noisePeriodSet gatesSet envelopePeriodSet shapeSet voiceSet masked applyRegister voiceReset writesFrom waiting due late appliedInOrder registerWrites push drain queueIn ticking ticked drained ranOf mixedOf wordOf afterWords ticksOf clocksNo clocksIn bytesIn toneIn allOrNone noiseIn envelopeIn generatorsIn gatesIn voiceIn variantIn coreIn chipIn madeOf withClocks resetOf resetCall writePort setCpuCycle syncSampleCycle flushPendingWrites blockNumber blocked sampled answers after entries enters entered ledger reach
 cases = (refl, refl, refl, refl, refl, refl, refl, refl, refl)

@@ -40,6 +40,7 @@ use Rattle.laws_promises.proofs.Sounds.{neither, Leaves, apply-leaves, 
 -- no word, and nothing applied from the queue
 pub record Still (c d : Chip) (l m : Ledger) : Type 0 where
   pub clocks : d .core .clocks ≡ c .core .clocks
+  pub variant : d .core .variant ≡ c .core .variant
   pub accumulator : d .core .accumulator ≡ c .core .accumulator
   pub new : List Write
   pub waits : waiting (d .queue) ≡ waiting (c .queue) ++ new
@@ -76,6 +77,7 @@ module _ (x : Call) (c : Chip) (l : Ledger) where
   nothing =
       rests (record {
         clocks = refl;
+        variant = refl;
         accumulator = refl;
         new = [];
         waits = sym (append-nil (waiting (c .queue)));
@@ -95,11 +97,12 @@ module _ (x : Call) (c : Chip) (l : Ledger) where
   tested m a k = by-cond (Comes m) (chipIn c) a (answered outOfRange c) (λ _. k) (λ _. nothing)
 
   -- a change that neither the queue nor the clocks see
-  turned : (d : Chip) → d .core .clocks ≡ c .core .clocks → d .core .accumulator ≡ c .core .accumulator → d .queue ≡ c .queue
+  turned : (d : Chip) → d .core .clocks ≡ c .core .clocks → d .core .variant ≡ c .core .variant → d .core .accumulator ≡ c .core .accumulator → d .queue ≡ c .queue
       → StartStays x c d → {restart : Bool} → Leaves restart (c .core .voice) (d .core .voice) → Deed x c d l (restarts restart l)
-  turned d e f g start {restart} s =
+  turned d e a f g start {restart} s =
       rests (record {
         clocks = e;
+        variant = a;
         accumulator = f;
         new = [];
         waits = ap waiting g ∙ sym (append-nil (waiting (c .queue)));
@@ -111,17 +114,17 @@ module _ (x : Call) (c : Chip) (l : Ledger) where
       }) start
 
   voiced : {restart : Bool} {v : Voice} → Leaves restart (c .core .voice) v → Deed x c (withVoice v c) l (restarts restart l)
-  voiced s = turned _ refl refl refl (λ _. refl) s
+  voiced s = turned _ refl refl refl refl (λ _. refl) s
 
   -- a change of neither voice nor queue
-  aside : (d : Chip) → d .core .clocks ≡ c .core .clocks → d .core .accumulator ≡ c .core .accumulator → d .queue ≡ c .queue
+  aside : (d : Chip) → d .core .clocks ≡ c .core .clocks → d .core .variant ≡ c .core .variant → d .core .accumulator ≡ c .core .accumulator → d .queue ≡ c .queue
       → d .core .voice ≡ c .core .voice → StartStays x c d → Deed x c d l l
-  aside d e f g v start = turned d e f g start (same-leaves v)
+  aside d e a f g v start = turned d e a f g start (same-leaves v)
 
   -- mutes and drums
   channelled : (channel : ℕ) (channels : Channels) → Comes l (forChannel channel channels c)
   channelled channel channels =
-      tested l _ (by-le (Comes l) 3 channel (λ _. nothing) (λ _. aside (withChannels channels c) refl refl refl refl (λ _. refl)))
+      tested l _ (by-le (Comes l) 3 channel (λ _. nothing) (λ _. aside (withChannels channels c) refl refl refl refl refl (λ _. refl)))
 
   -- a port write: it selects, or it queues what there is room for
   ported : (select : Bool) (value : ℕ) → InRange c
@@ -131,6 +134,7 @@ module _ (x : Call) (c : Chip) (l : Ledger) where
   ported true value h =
       rests (record {
         clocks = refl;
+        variant = refl;
         accumulator = refl;
         new = [];
         waits = sym (append-nil (waiting (c .queue)));
@@ -145,6 +149,7 @@ module _ (x : Call) (c : Chip) (l : Ledger) where
       by-le (λ (p : Pushed). Comes (accepts (write ∷ []) l) (queued c p)) 256 (c .queue .count) (λ _. nothing)
       (λ room. rests (record {
         clocks = refl;
+        variant = refl;
         accumulator = refl;
         new = write ∷ [];
         waits = waiting-pushed write (c .queue) (h .queue) room;
@@ -160,7 +165,7 @@ module _ (x : Call) (c : Chip) (l : Ledger) where
       (cond select (answered accepted (withSelection (value % 16) c))
       (answered accepted (onVoice (applyRegister (c .core .selected) value) c)))
   unfolding appliedInOrder registerWrites
-  immediate true value = aside (withSelection (value % 16) c) refl refl refl refl (λ _. refl)
+  immediate true value = aside (withSelection (value % 16) c) refl refl refl refl refl (λ _. refl)
   immediate false value = voiced (all-leave (stamped value c ∷ []) (c .core .voice))
 
   played : (n : ℕ) → Comes (renders (entries n c) l) (answered (blocked n c .answer .no) (blocked n c .chip))
@@ -182,8 +187,8 @@ did (History.write-register register value) c l h = tested _ c l _ _ (voiced _ c
 did (History.load-registers bytes) c l h = tested _ c l _ _ (voiced _ c l (in-order-leaves _ (c .core .voice)))
 did (History.write-port port value) c l h = tested _ c l _ _ (ported _ c l (bit1Clear port) value h)
 did (History.write-port-immediate port value) c l h = tested _ c l _ _ (immediate _ c l (bit1Clear port) value)
-did (History.set-cpu-cycle cycle) c l h = tested _ c l _ _ (aside _ c l (withTimes cycle (c .core .start) c) refl refl refl refl (λ _. refl))
-did (History.sync-sample-cycle cycle) c l h = tested _ c l _ _ (aside _ c l (withTimes cycle cycle c) refl refl refl refl (λ p. absurd (p cycle refl)))
+did (History.set-cpu-cycle cycle) c l h = tested _ c l _ _ (aside _ c l (withTimes cycle (c .core .start) c) refl refl refl refl refl (λ _. refl))
+did (History.sync-sample-cycle cycle) c l h = tested _ c l _ _ (aside _ c l (withTimes cycle cycle c) refl refl refl refl refl (λ p. absurd (p cycle refl)))
 did History.flush-pending-writes c l h = tested _ c l _ _ (flushes refl refl refl)
 did (History.set-timer-irq-state on) c l h = tested _ c l _ _ (voiced _ c l (irq-leaves on (c .core .voice)))
 did (History.inside-timer-irq inside) c l h = tested _ c l _ _ (voiced _ c l (irq-leaves inside (c .core .voice)))

@@ -1,7 +1,7 @@
--- Demand 3: for any calls on a chip with accepted clocks. Assumes nothing.
+-- Demand 3: for any calls on a chip with accepted clocks, of every variant. Assumes nothing.
 use mathlib.Core.Bool.{false}
 use mathlib.Core.List.{List, [], _∷_, _++_, append-assoc, append-nil}
-use mathlib.Core.Path.{_≡_, refl, sym, ap, _∙_}
+use mathlib.Core.Path.{_≡_, refl, sym, ap, subst, _∙_}
 use Prim.Native.Nat.{ℕ, zero, suc, _<_}
 use native.Mathlib.Omega.{arith}
 use borrow.Author.Tests.{ne-eqb}
@@ -18,7 +18,8 @@ use Rattle.clocks.specs.Clocks.{clocksNo}
 use Rattle.chip.specs.Clocks.{clocksOf}
 use Rattle.chip.proofs.InRange.{InRange, passes}
 use Rattle.answers.specs.declared.Answered.{Answered}
-use Rattle.calls_making.specs.Making.{madeOf, withClocks}
+use Rattle.calls_making.specs.Making.{madeOf, defaultVariant, makingNo, withClocks, withVariant}
+use Rattle.calls_making.proofs.Makings.{clocks-accepted, variant-accepted, clocks-alone, default-variant}
 use Rattle.calls_cycles.specs.Cycles.{pendingWriteCount}
 use Rattle.laws_promises.specs.History.{Call, answers, after, Entry, entries, Ledger, emptyLedger, entered, ledger}
 use Rattle.laws_promises.specs.Demand.{Plain, Served, Holds, FromZero, Demand}
@@ -79,8 +80,9 @@ pub counted : (c : Chip) → InRange c → pendingWriteCount c ≡ record { no =
 unfolding pendingWriteCount
 counted c h = rw (passes h, length-waiting (c .queue))
 
-pub holds : {master rate : ℕ} {c : Chip} {l : Ledger} → Keeps master rate c l → (l .restarted ≡ false → FromZero c) → Holds master rate c l
-holds {master} {rate} {c} {l} k z =
+pub holds : {master rate variant : ℕ} {c : Chip} {l : Ledger} → Keeps master rate variant c l → (l .restarted ≡ false → FromZero c)
+    → Holds master rate variant c l
+holds {master} {rate} {variant} {c} {l} k z =
     let r = k .range in
     let n = r .voice .generators .noise in
     record {
@@ -88,6 +90,7 @@ holds {master} {rate} {c} {l} k z =
       served = waiting-served c r;
       beyond = record {
         clocks = k .clocks;
+        of-variant = k .of-variant;
         never22 = λ x. numbered x c .fine (passes r);
         refused = nothing-changes c l;
         count = counted c r;
@@ -99,17 +102,22 @@ holds {master} {rate} {c} {l} k z =
       };
     }
 
-made-is : (master rate : ℕ) → clocksNo master rate ≡ accepted → madeOf (clocksOf master rate) ≡ withClocks master rate .chip
-unfolding withClocks
-made-is master rate e = ap (λ (a : Answered). a .chip) (on-eq (clocksNo master rate) accepted _ _ _ e refl)
+made-is : (master rate variant : ℕ) → makingNo master rate variant ≡ accepted → madeOf (clocksOf master rate) variant ≡ withVariant master rate variant .chip
+unfolding withVariant
+made-is master rate variant e = ap (λ (a : Answered). a .chip) (on-eq (makingNo master rate variant) accepted _ _ _ e refl)
 
-made-circles : (master rate : ℕ) → FromZero (madeOf (clocksOf master rate))
+made-circles : (master rate variant : ℕ) → FromZero (madeOf (clocksOf master rate) variant)
 unfolding madeOf
-made-circles master rate = reset-sounds _ .1
+made-circles master rate variant = reset-sounds _ .1
 
 pub demand-3 : Demand
-demand-3 master rate e calls =
-    let m = made-kept master rate e in
-    let c = madeOf (clocksOf master rate) in
-    rw (← made-is master rate e)
-    (holds (calls-kept calls c emptyLedger m) (calls-circle calls c emptyLedger (m .range) (λ _. made-circles master rate)))
+demand-3 master rate variant e calls =
+    let m = made-kept master rate variant (clocks-accepted master rate variant e) (variant-accepted master rate variant e) in
+    let c = madeOf (clocksOf master rate) variant in
+    subst (λ (d : Chip). Holds master rate variant (after calls d) (ledger calls d emptyLedger)) (made-is master rate variant e)
+    (holds (calls-kept calls c emptyLedger m) (calls-circle calls c emptyLedger (m .range) (λ _. made-circles master rate variant)))
+
+-- a chip of the default variant, as `with_clocks` makes it
+pub clocks-demand : (master rate : ℕ) → clocksNo master rate ≡ accepted → (calls : List Call)
+    → Holds master rate defaultVariant (after calls (withClocks master rate .chip)) (ledger calls (withClocks master rate .chip) emptyLedger)
+clocks-demand master rate e calls = rw (default-variant master rate) (demand-3 master rate defaultVariant (clocks-alone master rate ∙ e) calls)

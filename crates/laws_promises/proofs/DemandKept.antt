@@ -1,7 +1,7 @@
 -- Each call keeps what the demand says of the chip and its ledger; so do any calls. Assumes nothing.
 use mathlib.Core.List.{List, [], _∷_, _++_, append-assoc, append-nil}
 use mathlib.Core.Path.{_≡_, refl, sym, _∙_}
-use Prim.Native.Nat.{ℕ, _+_, _*_, _/_, _<_}
+use Prim.Native.Nat.{ℕ, _+_, _*_, _/_, _≤_, _<_}
 use native.Mathlib.Nat.{add-mul}
 use native.Mathlib.Omega.{arith}
 use lib.ListN.{length, length-append}
@@ -24,9 +24,10 @@ use Rattle.laws_promises.proofs.Words.{Rendered, rendered}
 use Rattle.laws_promises.proofs.Deeds.{Still, Deed, rests, flushes, begins, plays, deed}
 
 -- with what a call needs of its chip
-pub record Keeps (master rate : ℕ) (c : Chip) (l : Ledger) : Type 0 where
+pub record Keeps (master rate variant : ℕ) (c : Chip) (l : Ledger) : Type 0 where
   pub range : InRange c
   pub clocks : c .core .clocks ≡ clocksOf master rate
+  pub of-variant : c .core .variant ≡ variant
   pub agrees : Agrees (noiseOf c)
   pub kept : Kept master rate c l
 
@@ -38,9 +39,9 @@ ticks-append (w ∷ a) b = omega (arith, ticks-append a b)
 below-rate : {master rate : ℕ} {c : Chip} → InRange c → c .core .clocks ≡ clocksOf master rate → c .core .accumulator < rate
 below-rate r e = rw e at (r .accumulator)
 
-module _ {master rate : ℕ} {c : Chip} {l : Ledger} (k : Keeps master rate c l) where
+module _ {master rate variant : ℕ} {c : Chip} {l : Ledger} (k : Keeps master rate variant c l) where
   -- the sums add up, and what the words apply was waiting
-  words-kept : {d : Chip} {ws : List Entry} → Rendered c d ws → Keeps master rate d (renders ws l)
+  words-kept : {d : Chip} {ws : List Entry} → Rendered c d ws → Keeps master rate variant d (renders ws l)
   words-kept {d} {ws} b =
       let was = k .kept in
       let clocks : d .core .clocks ≡ clocksOf master rate = b .clocks ∙ k .clocks in
@@ -52,6 +53,7 @@ module _ {master rate : ℕ} {c : Chip} {l : Ledger} (k : Keeps master rate c l)
       record {
         range = b .ok;
         clocks = clocks;
+        of-variant = b .variant ∙ k .of-variant;
         agrees = b .agrees (k .agrees);
         kept = record {
           sum = omega (arith, was .sum);
@@ -63,13 +65,14 @@ module _ {master rate : ℕ} {c : Chip} {l : Ledger} (k : Keeps master rate c l)
       }
 
   -- no word, and nothing applied
-  still-kept : {d : Chip} {m : Ledger} → InRange d → Still c d l m → Keeps master rate d m
+  still-kept : {d : Chip} {m : Ledger} → InRange d → Still c d l m → Keeps master rate variant d m
   still-kept {d} {m} r s =
       let was = k .kept in
       let clocks : d .core .clocks ≡ clocksOf master rate = s .clocks ∙ k .clocks in
       record {
         range = r;
         clocks = clocks;
+        of-variant = s .variant ∙ k .of-variant;
         agrees = s .agrees (k .agrees);
         kept = record {
           sum = rw (s .words, s .accumulator) (was .sum);
@@ -81,13 +84,14 @@ module _ {master rate : ℕ} {c : Chip} {l : Ledger} (k : Keeps master rate c l)
       }
 
   -- a flush applies what waits
-  flush-kept : InRange (flushed c) → Keeps master rate (flushed c) (enters History.flush-pending-writes c l)
+  flush-kept : InRange (flushed c) → Keeps master rate variant (flushed c) (enters History.flush-pending-writes c l)
   unfolding enters
   flush-kept r =
       let was = k .kept in
       record {
         range = r;
         clocks = k .clocks;
+        of-variant = k .of-variant;
         agrees = leaves-agrees (all-leave (waiting (c .queue)) (c .core .voice)) (k .agrees);
         kept = record {
           sum = was .sum;
@@ -99,12 +103,13 @@ module _ {master rate : ℕ} {c : Chip} {l : Ledger} (k : Keeps master rate c l)
       }
 
   -- a reset begins anew
-  reset-kept : InRange (resetOf c) → Keeps master rate (resetOf c) (enters History.reset c l)
+  reset-kept : InRange (resetOf c) → Keeps master rate variant (resetOf c) (enters History.reset c l)
   unfolding resetOf enters
   reset-kept r =
       record {
         range = r;
         clocks = k .clocks;
+        of-variant = k .of-variant;
         agrees = reset-sounds (c .core .voice) .0;
         kept = record {
           sum = omega arith;
@@ -115,7 +120,7 @@ module _ {master rate : ℕ} {c : Chip} {l : Ledger} (k : Keeps master rate c l)
         };
       }
 
-  deed-kept : {x : Call} {d : Chip} {m : Ledger} → InRange d → Deed x c d l m → Keeps master rate d m
+  deed-kept : {x : Call} {d : Chip} {m : Ledger} → InRange d → Deed x c d l m → Keeps master rate variant d m
   deed-kept r (rests s _) = still-kept r s
   deed-kept r (flushes _ e f) = rw (e, f) (flush-kept (rw e at r))
   deed-kept r (begins _ e f) = rw (e, f) (reset-kept (rw e at r))
@@ -147,21 +152,22 @@ in-range History.pending-write-count c h = h
 in-range (History.is-channel-muted channel) c h = h
 in-range History.get-channel-outputs c h = h
 
-pub calls-kept : {master rate : ℕ} (calls : List Call) (c : Chip) (l : Ledger) → Keeps master rate c l
-    → Keeps master rate (after calls c) (ledger calls c l)
+pub calls-kept : {master rate variant : ℕ} (calls : List Call) (c : Chip) (l : Ledger) → Keeps master rate variant c l
+    → Keeps master rate variant (after calls c) (ledger calls c l)
 unfolding after ledger
 calls-kept [] c l k = k
 calls-kept (x ∷ calls) c l k =
     calls-kept calls (answers x c .chip) (entered x c l) (deed-kept k (in-range x c (k .range)) (deed x c l (k .range)))
 
 -- a new chip
-pub made-kept : (master rate : ℕ) → clocksNo master rate ≡ 0 → Keeps master rate (madeOf (clocksOf master rate)) emptyLedger
+pub made-kept : (master rate variant : ℕ) → clocksNo master rate ≡ 0 → variant ≤ 2 → Keeps master rate variant (madeOf (clocksOf master rate) variant) emptyLedger
 unfolding madeOf
-made-kept master rate e =
-    let r = Calls.made-kept master rate e in
+made-kept master rate variant e v =
+    let r = Calls.made-kept master rate variant e v in
     record {
       range = r;
       clocks = refl;
+      of-variant = refl;
       agrees = reset-sounds _ .0;
       kept = record {
         sum = omega arith;

@@ -9,10 +9,12 @@ use Rattle.refusals.specs.Numbers.{accepted}
 use Rattle.laws.proofs.Tests.{on-ne}
 use Rattle.channel.specs.declared.Drum.{Drum}
 use Rattle.chip.specs.declared.Chip.{Chip}
+use Rattle.chip.specs.Range.{variantIn}
 use Rattle.clocks.specs.Clocks.{clocksNo}
 use Rattle.answers.specs.declared.Answered.{Answered}
 use Rattle.answers.specs.Answers.{answered}
-use Rattle.calls_making.specs.Making.{fresh, withClocks, resetCall, defaultMaster, defaultRate}
+use Rattle.calls_making.specs.Making.{fresh, makingNo, withClocks, withVariant, resetCall, defaultMaster, defaultRate, defaultVariant}
+use Rattle.calls_making.proofs.Makings.{default-variant}
 use Rattle.calls_registers.specs.Stored.{dumpRegisters, loadRegisters, readRegister, writeRegister}
 use Rattle.calls_ports.specs.Ports.{readPort, writePort, writePortImmediate}
 use Rattle.calls_cycles.specs.Cycles.{cpuCycle, flushPendingWrites, pendingWriteCount, setCpuCycle, syncSampleCycle}
@@ -76,14 +78,18 @@ public c =
       get-channel-outputs = refl;
     }
 
--- `new`, and `with_clocks` where it refuses, begin histories that are among the demand's: at the default clocks
-pub new-begins : fresh ≡ withClocks defaultMaster defaultRate .chip
-unfolding fresh withClocks clocksNo
+-- `new`, `with_clocks`, and `with_variant` where it refuses, begin histories that are among the demand's
+pub new-begins : fresh ≡ withVariant defaultMaster defaultRate defaultVariant .chip
+unfolding fresh withVariant makingNo clocksNo variantIn
 new-begins = refl
 
-refused-fresh : (master rate : ℕ) → (clocksNo master rate ≡ accepted → ⊥) → withClocks master rate .chip ≡ fresh
-unfolding withClocks
-refused-fresh master rate f = ap (λ (a : Answered). a .chip) (sym (on-ne (clocksNo master rate) accepted _ _ _ f refl))
+pub clocks-begin : (master rate : ℕ) → withClocks master rate ≡ withVariant master rate defaultVariant
+clocks-begin = default-variant
 
-pub refused-begins : (master rate : ℕ) → (clocksNo master rate ≡ accepted → ⊥) → withClocks master rate .chip ≡ withClocks defaultMaster defaultRate .chip
-refused-begins master rate f = refused-fresh master rate f ∙ new-begins
+refused-fresh : (master rate variant : ℕ) → (makingNo master rate variant ≡ accepted → ⊥) → withVariant master rate variant .chip ≡ fresh
+unfolding withVariant
+refused-fresh master rate variant f = ap (λ (a : Answered). a .chip) (sym (on-ne (makingNo master rate variant) accepted _ _ _ f refl))
+
+pub refused-begins : (master rate variant : ℕ) → (makingNo master rate variant ≡ accepted → ⊥)
+    → withVariant master rate variant .chip ≡ withVariant defaultMaster defaultRate defaultVariant .chip
+refused-begins master rate variant f = refused-fresh master rate variant f ∙ new-begins

@@ -28,6 +28,7 @@ use Rattle.laws_promises.proofs.Sounds.{neither, all-leave, leaves-agre
 pub record Worded (c d : Chip) (w : Entry) : Type 0 where
   pub ok : InRange d
   pub clocks : d .core .clocks ≡ c .core .clocks
+  pub variant : d .core .variant ≡ c .core .variant
   pub sum : w .ticks * c .core .clocks .rate + c .core .accumulator ≡ c .core .clocks .internal + d .core .accumulator
   pub small : Small w
   pub applied : w .applied ≡ due (w .end) (waiting (c .queue))
@@ -61,6 +62,7 @@ module _ (c : Chip) (h : InRange c) where
       record {
         ok = one-kept h;
         clocks = s .clocks;
+        variant = s .variant;
         sum = s .sum;
         small = s .small;
         applied = refl;
@@ -73,6 +75,7 @@ module _ (c : Chip) (h : InRange c) where
 pub record Rendered (c d : Chip) (ws : List Entry) : Type 0 where
   pub ok : InRange d
   pub clocks : d .core .clocks ≡ c .core .clocks
+  pub variant : d .core .variant ≡ c .core .variant
   pub sum : ticksIn ws * c .core .clocks .rate + c .core .accumulator ≡ length ws * c .core .clocks .internal + d .core .accumulator
   pub small : All Small ws
   pub order : waiting (c .queue) ≡ appliedIn ws ++ waiting (d .queue)
@@ -95,6 +98,7 @@ linked {c} {d} {e} {w} {ws} s r =
     record {
       ok = r .ok;
       clocks = r .clocks ∙ s .clocks;
+      variant = r .variant ∙ s .variant;
       sum = rw (add-mul, suc-mul) (omega (arith, s .sum));
       small = (s .small, r .small);
       order = cc (due-late (w .end) (waiting (c .queue)), append-assoc (w .applied) (appliedIn ws) (waiting (e .queue)));
@@ -108,6 +112,7 @@ rendered zero c h =
     record {
       ok = h;
       clocks = refl;
+      variant = refl;
       sum = omega arith;
       small = tt;
       order = refl;

@@ -17,12 +17,11 @@ use Rattle.chip.specs.declared.Chip.{Chip}
 use Rattle.calls_cycles.specs.Cycles.{pendingWriteCount}
 use Rattle.envelope.specs.Range.{PositionInRange}
 use Rattle.laws.specs.All.{All}
-use Rattle.calls_making.specs.Making.{withClocks}
+use Rattle.calls_making.specs.Making.{makingNo, withVariant}
 use Rattle.noise.specs.Course.{Agrees}
 use Rattle.noise.specs.declared.Noise.{Noise}
 use Rattle.queue.specs.Waiting.{waiting}
 use Rattle.queue.specs.declared.Write.{Write}
-use Rattle.clocks.specs.Clocks.{clocksNo}
 use Rattle.chip.specs.Clocks.{clocksOf}
 use Rattle.refusals.specs.Numbers.{accepted, outOfRange}
 use Rattle.laws_promises.specs.History.{Call, reset, flush-pending-writes, answers, after, Entry, ticksIn, appliedIn, Ledger, emptyLedger, entered, ledger}
@@ -103,9 +102,10 @@ positionOf c = c .core .voice .generators .envelope .position
 abbrev pub FromZero : Chip → Type 0
 FromZero c = leZ (pos 0) (positionOf c) ≡ true
 
-pub record Beyond (master rate : ℕ) (c : Chip) (l : Ledger) : Type 0 where
-  -- The clocks stay those of the making.
+pub record Beyond (master rate variant : ℕ) (c : Chip) (l : Ledger) : Type 0 where
+  -- The clocks stay those of the making, and so does the variant.
   pub clocks : c .core .clocks ≡ clocksOf master rate
+  pub of-variant : c .core .variant ≡ variant
   -- 01 on 22: "Records left by calls never give it."
   pub never22 : (x : Call) → answers x c .no ≡ outOfRange → ⊥
   -- A refused call changes nothing.
@@ -121,14 +121,14 @@ pub record Beyond (master rate : ℕ) (c : Chip) (l : Ledger) : Type 0 where
   pub restarted : l .restarted ≡ false → FromZero c
   pub circles : FromZero c → (later : List Call) → ledger later c emptyLedger .restarted ≡ false → FromZero (after later c)
 
-pub record Holds (master rate : ℕ) (c : Chip) (l : Ledger) : Type 0 where
+pub record Holds (master rate variant : ℕ) (c : Chip) (l : Ledger) : Type 0 where
   pub kept : Kept master rate c l
   pub served : (i : ℕ) → i < length (waiting (c .queue)) → (later : List Call) → All Plain later
       → Served (waiting (c .queue)) i (ledger later c emptyLedger .words) (waiting (after later c .queue))
-  pub beyond : Beyond master rate c l
+  pub beyond : Beyond master rate variant c l
 
--- "Over any calls on a chip with accepted clocks"
+-- "Over any calls on a chip with accepted clocks"; 02, request 05: "demand 3 speaks of all" variants.
 abbrev pub Demand : Type 0
 Demand =
-    (master rate : ℕ) → clocksNo master rate ≡ accepted → (calls : List Call)
-    → Holds master rate (after calls (withClocks master rate .chip)) (ledger calls (withClocks master rate .chip) emptyLedger)
+    (master rate variant : ℕ) → makingNo master rate variant ≡ accepted → (calls : List Call)
+    → Holds master rate variant (after calls (withVariant master rate variant .chip)) (ledger calls (withVariant master rate variant .chip) emptyLedger)

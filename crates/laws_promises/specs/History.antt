@@ -22,7 +22,7 @@ use Rattle.calls_registers.specs.Stored.{dumpRegisters, loadRegisters, readRegi
 use Rattle.calls_words.specs.Blocks.{blocked, sampled}
 
 -- Every public call on a chip, with its arguments. (They may exceed the code's types: what holds of all holds of those.)
--- `new` and `with_clocks` are no calls on a chip: they begin a history.
+-- `new`, `with_clocks` and `with_variant` are no calls on a chip: they begin a history.
 pub data Call : Type 0 where
   reset : Call
   write-register : (register value : ℕ) → Call

@@ -53,8 +53,9 @@ paragraph c =
       noise-period = refl;
       envelope-period = refl;
       clocks = refl;
+      variant = refl;
     }
 
 pub resets : Resets
 unfolding madeOf resetOf resetCall
-resets = record { paragraph = paragraph; call = λ c. refl; new = λ k. refl }
+resets = record { paragraph = paragraph; call = λ c. refl; new = λ k variant. refl }

@@ -2,7 +2,7 @@
 use mathlib.Core.Bool.{cond, false}
 use mathlib.Core.List.{[], _∷_}
 use mathlib.Core.Path.{_≡_}
-use Prim.Native.Nat.{_+_, _*_, _/_, _%_, _^_}
+use Prim.Native.Nat.{ℕ, _+_, _*_, _/_, _%_, _^_}
 use lib.Bits.{bitAnd}
 use lib.IntN.{pos}
 use Rattle.refusals.specs.Numbers.{accepted, outOfRange}
@@ -82,10 +82,12 @@ pub record Paragraph (c r : Chip) : Type 0 where
   pub noise-period : generatorsOf r .noise .period ≡ generatorsOf c .noise .period
   pub envelope-period : generatorsOf r .envelope .period ≡ generatorsOf c .envelope .period
   pub clocks : r .core .clocks ≡ c .core .clocks
+  -- 02, request 05: "Reset keeps the variant."
+  pub variant : r .core .variant ≡ c .core .variant
 
 pub record Resets : Type 0 where
   -- Of every chip, and what the call answers for it: 22 first.
   pub paragraph : (c : Chip) → Paragraph c (resetOf c)
   pub call : (c : Chip) → resetCall c ≡ cond (chipIn c) (answered accepted (resetOf c)) (answered outOfRange c)
   -- A new chip is a reset one, of zeros and quiet channels.
-  pub new : (k : Clocks) → madeOf k ≡ resetOf (atStart k (zeros generatorsNew) allQuiet)
+  pub new : (k : Clocks) (variant : ℕ) → madeOf k variant ≡ resetOf (atStart k variant (zeros generatorsNew) allQuiet)

@@ -65,7 +65,7 @@ core = record {
 }
 
 abbrev with-voice : Voice → Core → Core
-with-voice y k = record { clocks = k .clocks; voice = y; channels = k .channels; selected = k .selected; accumulator = k .accumulator; stamp = k .stamp; start = k .start }
+with-voice y k = record { clocks = k .clocks; voice = y; channels = k .channels; selected = k .selected; variant = k .variant; accumulator = k .accumulator; stamp = k .stamp; start = k .start }
 
 abbrev pub voice : Field core′.the-type core-laws.the-laws (struct voice′.the-type voice-laws.the-laws)
 voice = record {
@@ -81,7 +81,7 @@ voice = record {
 }
 
 abbrev with-channels : Channels → Core → Core
-with-channels y k = record { clocks = k .clocks; voice = k .voice; channels = y; selected = k .selected; accumulator = k .accumulator; stamp = k .stamp; start = k .start }
+with-channels y k = record { clocks = k .clocks; voice = k .voice; channels = y; selected = k .selected; variant = k .variant; accumulator = k .accumulator; stamp = k .stamp; start = k .start }
 
 abbrev pub channels : Field core′.the-type core-laws.the-laws (struct channels′.the-type channels-laws.the-laws)
 channels = record {

@@ -65,7 +65,7 @@ queue-is c queue is are = LL.owes chip′.the-type chip-laws.the-laws (record { 
 
 -- the clocks
 abbrev pub with-clocks : Clocks → Chip → Chip
-with-clocks y c = record { core = record { clocks = y; voice = c .core .voice; channels = c .core .channels; selected = c .core .selected; accumulator = c .core .accumulator; stamp = c .core .stamp; start = c .core .start }; queue = c .queue }
+with-clocks y c = record { core = record { clocks = y; voice = c .core .voice; channels = c .core .channels; selected = c .core .selected; variant = c .core .variant; accumulator = c .core .accumulator; stamp = c .core .stamp; start = c .core .start }; queue = c .queue }
 
 abbrev pub clocks : Part chip
 clocks = record {
@@ -77,7 +77,7 @@ clocks = record {
   with = λ u c. with-path (0 ∷ 0 ∷ []) (whole-val chip c) u;
   with-put = λ y c. refl;
   of-is = λ c is. core-are c is .0;
-  put-is = λ y c y-is is. let k = core-are c is in core-is c (with-clocks y c .core) is (y-is, (k .1 .0, (k .1 .1 .0, (k .1 .1 .1 .0, (k .1 .1 .1 .1 .0, (k .1 .1 .1 .1 .1 .0, (k .1 .1 .1 .1 .1 .1 .0, tt)))))));
+  put-is = λ y c y-is is. let k = core-are c is in core-is c (with-clocks y c .core) is (y-is, (k .1 .0, (k .1 .1 .0, (k .1 .1 .1 .0, (k .1 .1 .1 .1 .0, (k .1 .1 .1 .1 .1 .0, (k .1 .1 .1 .1 .1 .1 .0, (k .1 .1 .1 .1 .1 .1 .1 .0, tt))))))));
   found = λ t b o. fld t refl (fld t refl (stop t));
   lies = λ t q b o c. sub t 0 refl (sub t 0 refl (whole t));
 }
@@ -93,7 +93,7 @@ voice = record {
   with = λ u c. with-path (0 ∷ 1 ∷ []) (whole-val chip c) u;
   with-put = λ y c. refl;
   of-is = λ c is. core-are c is .1 .0;
-  put-is = λ y c y-is is. let k = core-are c is in core-is c ((withVoice y c) .core) is (k .0, (y-is, (k .1 .1 .0, (k .1 .1 .1 .0, (k .1 .1 .1 .1 .0, (k .1 .1 .1 .1 .1 .0, (k .1 .1 .1 .1 .1 .1 .0, tt)))))));
+  put-is = λ y c y-is is. let k = core-are c is in core-is c ((withVoice y c) .core) is (k .0, (y-is, (k .1 .1 .0, (k .1 .1 .1 .0, (k .1 .1 .1 .1 .0, (k .1 .1 .1 .1 .1 .0, (k .1 .1 .1 .1 .1 .1 .0, (k .1 .1 .1 .1 .1 .1 .1 .0, tt))))))));
   found = λ t b o. fld t refl (fld t refl (stop t));
   lies = λ t q b o c. sub t 1 refl (sub t 0 refl (whole t));
 }
@@ -109,7 +109,7 @@ channels = record {
   with = λ u c. with-path (0 ∷ 2 ∷ []) (whole-val chip c) u;
   with-put = λ y c. refl;
   of-is = λ c is. core-are c is .1 .1 .0;
-  put-is = λ y c y-is is. let k = core-are c is in core-is c ((withChannels y c) .core) is (k .0, (k .1 .0, (y-is, (k .1 .1 .1 .0, (k .1 .1 .1 .1 .0, (k .1 .1 .1 .1 .1 .0, (k .1 .1 .1 .1 .1 .1 .0, tt)))))));
+  put-is = λ y c y-is is. let k = core-are c is in core-is c ((withChannels y c) .core) is (k .0, (k .1 .0, (y-is, (k .1 .1 .1 .0, (k .1 .1 .1 .1 .0, (k .1 .1 .1 .1 .1 .0, (k .1 .1 .1 .1 .1 .1 .0, (k .1 .1 .1 .1 .1 .1 .1 .0, tt))))))));
   found = λ t b o. fld t refl (fld t refl (stop t));
   lies = λ t q b o c. sub t 2 refl (sub t 0 refl (whole t));
 }
@@ -125,60 +125,79 @@ selected = record {
   with = λ u c. with-path (0 ∷ 3 ∷ []) (whole-val chip c) u;
   with-put = λ y c. refl;
   of-is = λ c is. core-are c is .1 .1 .1 .0;
-  put-is = λ y c y-is is. let k = core-are c is in core-is c ((withSelection y c) .core) is (k .0, (k .1 .0, (k .1 .1 .0, (y-is, (k .1 .1 .1 .1 .0, (k .1 .1 .1 .1 .1 .0, (k .1 .1 .1 .1 .1 .1 .0, tt)))))));
+  put-is = λ y c y-is is. let k = core-are c is in core-is c ((withSelection y c) .core) is (k .0, (k .1 .0, (k .1 .1 .0, (y-is, (k .1 .1 .1 .1 .0, (k .1 .1 .1 .1 .1 .0, (k .1 .1 .1 .1 .1 .1 .0, (k .1 .1 .1 .1 .1 .1 .1 .0, tt))))))));
   found = λ t b o. fld t refl (fld t refl (stop t));
   lies = λ t q b o c. sub t 3 refl (sub t 0 refl (whole t));
 }
 
+-- the variant
+abbrev pub with-variant : ℕ → Chip → Chip
+with-variant y c = record { core = record { clocks = c .core .clocks; voice = c .core .voice; channels = c .core .channels; selected = c .core .selected; variant = y; accumulator = c .core .accumulator; stamp = c .core .stamp; start = c .core .start }; queue = c .queue }
+
+abbrev pub variant : Part chip
+variant = record {
+  X = u8f;
+  path = field 0 ∷ field 4 ∷ [];
+  at = λ o. (o + offset chip-laws.mir 0) + offset core-laws.mir 4;
+  of = λ c. c .core .variant;
+  put = with-variant;
+  with = λ u c. with-path (0 ∷ 4 ∷ []) (whole-val chip c) u;
+  with-put = λ y c. refl;
+  of-is = λ c is. core-are c is .1 .1 .1 .1 .0;
+  put-is = λ y c y-is is. let k = core-are c is in core-is c (with-variant y c .core) is (k .0, (k .1 .0, (k .1 .1 .0, (k .1 .1 .1 .0, (y-is, (k .1 .1 .1 .1 .1 .0, (k .1 .1 .1 .1 .1 .1 .0, (k .1 .1 .1 .1 .1 .1 .1 .0, tt))))))));
+  found = λ t b o. fld t refl (fld t refl (stop t));
+  lies = λ t q b o c. sub t 4 refl (sub t 0 refl (whole t));
+}
+
 -- the accumulator
 abbrev pub with-accumulator : ℕ → Chip → Chip
-with-accumulator y c = record { core = record { clocks = c .core .clocks; voice = c .core .voice; channels = c .core .channels; selected = c .core .selected; accumulator = y; stamp = c .core .stamp; start = c .core .start }; queue = c .queue }
+with-accumulator y c = record { core = record { clocks = c .core .clocks; voice = c .core .voice; channels = c .core .channels; selected = c .core .selected; variant = c .core .variant; accumulator = y; stamp = c .core .stamp; start = c .core .start }; queue = c .queue }
 
 abbrev pub accumulator : Part chip
 accumulator = record {
   X = u32f;
-  path = field 0 ∷ field 4 ∷ [];
-  at = λ o. (o + offset chip-laws.mir 0) + offset core-laws.mir 4;
+  path = field 0 ∷ field 5 ∷ [];
+  at = λ o. (o + offset chip-laws.mir 0) + offset core-laws.mir 5;
   of = λ c. c .core .accumulator;
   put = with-accumulator;
-  with = λ u c. with-path (0 ∷ 4 ∷ []) (whole-val chip c) u;
+  with = λ u c. with-path (0 ∷ 5 ∷ []) (whole-val chip c) u;
   with-put = λ y c. refl;
-  of-is = λ c is. core-are c is .1 .1 .1 .1 .0;
-  put-is = λ y c y-is is. let k = core-are c is in core-is c (with-accumulator y c .core) is (k .0, (k .1 .0, (k .1 .1 .0, (k .1 .1 .1 .0, (y-is, (k .1 .1 .1 .1 .1 .0, (k .1 .1 .1 .1 .1 .1 .0, tt)))))));
+  of-is = λ c is. core-are c is .1 .1 .1 .1 .1 .0;
+  put-is = λ y c y-is is. let k = core-are c is in core-is c (with-accumulator y c .core) is (k .0, (k .1 .0, (k .1 .1 .0, (k .1 .1 .1 .0, (k .1 .1 .1 .1 .0, (y-is, (k .1 .1 .1 .1 .1 .1 .0, (k .1 .1 .1 .1 .1 .1 .1 .0, tt))))))));
   found = λ t b o. fld t refl (fld t refl (stop t));
-  lies = λ t q b o c. sub t 4 refl (sub t 0 refl (whole t));
+  lies = λ t q b o c. sub t 5 refl (sub t 0 refl (whole t));
 }
 
 -- the stamp of later writes
 abbrev pub stamp : Part chip
 stamp = record {
   X = u64f;
-  path = field 0 ∷ field 5 ∷ [];
-  at = λ o. (o + offset chip-laws.mir 0) + offset core-laws.mir 5;
+  path = field 0 ∷ field 6 ∷ [];
+  at = λ o. (o + offset chip-laws.mir 0) + offset core-laws.mir 6;
   of = λ c. c .core .stamp;
   put = λ y c. withTimes y (c .core .start) c;
-  with = λ u c. with-path (0 ∷ 5 ∷ []) (whole-val chip c) u;
+  with = λ u c. with-path (0 ∷ 6 ∷ []) (whole-val chip c) u;
   with-put = λ y c. refl;
-  of-is = λ c is. core-are c is .1 .1 .1 .1 .1 .0;
-  put-is = λ y c y-is is. let k = core-are c is in core-is c ((withTimes y (c .core .start) c) .core) is (k .0, (k .1 .0, (k .1 .1 .0, (k .1 .1 .1 .0, (k .1 .1 .1 .1 .0, (y-is, (k .1 .1 .1 .1 .1 .1 .0, tt)))))));
+  of-is = λ c is. core-are c is .1 .1 .1 .1 .1 .1 .0;
+  put-is = λ y c y-is is. let k = core-are c is in core-is c ((withTimes y (c .core .start) c) .core) is (k .0, (k .1 .0, (k .1 .1 .0, (k .1 .1 .1 .0, (k .1 .1 .1 .1 .0, (k .1 .1 .1 .1 .1 .0, (y-is, (k .1 .1 .1 .1 .1 .1 .1 .0, tt))))))));
   found = λ t b o. fld t refl (fld t refl (stop t));
-  lies = λ t q b o c. sub t 5 refl (sub t 0 refl (whole t));
+  lies = λ t q b o c. sub t 6 refl (sub t 0 refl (whole t));
 }
 
 -- the next word's start
 abbrev pub start : Part chip
 start = record {
   X = u64f;
-  path = field 0 ∷ field 6 ∷ [];
-  at = λ o. (o + offset chip-laws.mir 0) + offset core-laws.mir 6;
+  path = field 0 ∷ field 7 ∷ [];
+  at = λ o. (o + offset chip-laws.mir 0) + offset core-laws.mir 7;
   of = λ c. c .core .start;
   put = λ y c. withTimes (c .core .stamp) y c;
-  with = λ u c. with-path (0 ∷ 6 ∷ []) (whole-val chip c) u;
+  with = λ u c. with-path (0 ∷ 7 ∷ []) (whole-val chip c) u;
   with-put = λ y c. refl;
-  of-is = λ c is. core-are c is .1 .1 .1 .1 .1 .1 .0;
-  put-is = λ y c y-is is. let k = core-are c is in core-is c ((withTimes (c .core .stamp) y c) .core) is (k .0, (k .1 .0, (k .1 .1 .0, (k .1 .1 .1 .0, (k .1 .1 .1 .1 .0, (k .1 .1 .1 .1 .1 .0, (y-is, tt)))))));
+  of-is = λ c is. core-are c is .1 .1 .1 .1 .1 .1 .1 .0;
+  put-is = λ y c y-is is. let k = core-are c is in core-is c ((withTimes (c .core .stamp) y c) .core) is (k .0, (k .1 .0, (k .1 .1 .0, (k .1 .1 .1 .0, (k .1 .1 .1 .1 .0, (k .1 .1 .1 .1 .1 .0, (k .1 .1 .1 .1 .1 .1 .0, (y-is, tt))))))));
   found = λ t b o. fld t refl (fld t refl (stop t));
-  lies = λ t q b o c. sub t 6 refl (sub t 0 refl (whole t));
+  lies = λ t q b o c. sub t 7 refl (sub t 0 refl (whole t));
 }
 
 -- the ring's arrays, its place and its count

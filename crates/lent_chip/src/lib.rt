@@ -10,6 +10,7 @@ pub fn in_range(chip: &Chip) -> bool
     chip::parts_in(
         chip.core.clocks,
         chip.core.accumulator,
+        chip.core.variant,
         chip.core.voice,
         chip.core.selected,
         chip.queue.registers,

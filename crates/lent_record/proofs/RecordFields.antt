@@ -48,7 +48,7 @@ core = record {
 
 -- ---- of its core: the voice, and the three channels
 abbrev with-voice : Voice → RecordCore → RecordCore
-with-voice y k = record { clocks = k .clocks; voice = y; a = k .a; b = k .b; c = k .c; selected = k .selected; accumulator = k .accumulator; stamp = k .stamp; start = k .start }
+with-voice y k = record { clocks = k .clocks; voice = y; a = k .a; b = k .b; c = k .c; selected = k .selected; variant = k .variant; accumulator = k .accumulator; stamp = k .stamp; start = k .start }
 
 abbrev pub voice : Field core′.the-type core-laws.the-laws (struct voice′.the-type voice-laws.the-laws)
 voice = record {
@@ -64,7 +64,7 @@ voice = record {
 }
 
 abbrev with-a : RecordChannel → RecordCore → RecordCore
-with-a y k = record { clocks = k .clocks; voice = k .voice; a = y; b = k .b; c = k .c; selected = k .selected; accumulator = k .accumulator; stamp = k .stamp; start = k .start }
+with-a y k = record { clocks = k .clocks; voice = k .voice; a = y; b = k .b; c = k .c; selected = k .selected; variant = k .variant; accumulator = k .accumulator; stamp = k .stamp; start = k .start }
 
 abbrev pub a : Field core′.the-type core-laws.the-laws (struct channel′.the-type channel-laws.the-laws)
 a = record {
@@ -80,7 +80,7 @@ a = record {
 }
 
 abbrev with-b : RecordChannel → RecordCore → RecordCore
-with-b y k = record { clocks = k .clocks; voice = k .voice; a = k .a; b = y; c = k .c; selected = k .selected; accumulator = k .accumulator; stamp = k .stamp; start = k .start }
+with-b y k = record { clocks = k .clocks; voice = k .voice; a = k .a; b = y; c = k .c; selected = k .selected; variant = k .variant; accumulator = k .accumulator; stamp = k .stamp; start = k .start }
 
 abbrev pub b : Field core′.the-type core-laws.the-laws (struct channel′.the-type channel-laws.the-laws)
 b = record {
@@ -96,7 +96,7 @@ b = record {
 }
 
 abbrev with-c : RecordChannel → RecordCore → RecordCore
-with-c y k = record { clocks = k .clocks; voice = k .voice; a = k .a; b = k .b; c = y; selected = k .selected; accumulator = k .accumulator; stamp = k .stamp; start = k .start }
+with-c y k = record { clocks = k .clocks; voice = k .voice; a = k .a; b = k .b; c = y; selected = k .selected; variant = k .variant; accumulator = k .accumulator; stamp = k .stamp; start = k .start }
 
 abbrev pub c : Field core′.the-type core-laws.the-laws (struct channel′.the-type channel-laws.the-laws)
 c = record {

@@ -61,7 +61,7 @@ queue-is x queue is are = LL.owes record′.the-type record-laws.the-laws (recor
 
 -- the clocks
 abbrev pub with-clocks : Clocks → Record → Record
-with-clocks y x = record { core = record { clocks = y; voice = x .core .voice; a = x .core .a; b = x .core .b; c = x .core .c; selected = x .core .selected; accumulator = x .core .accumulator; stamp = x .core .stamp; start = x .core .start }; queue = x .queue }
+with-clocks y x = record { core = record { clocks = y; voice = x .core .voice; a = x .core .a; b = x .core .b; c = x .core .c; selected = x .core .selected; variant = x .core .variant; accumulator = x .core .accumulator; stamp = x .core .stamp; start = x .core .start }; queue = x .queue }
 
 abbrev pub clocks : Part lent
 clocks = record {
@@ -73,14 +73,14 @@ clocks = record {
   with = λ u x. with-path (0 ∷ 0 ∷ []) (whole-val lent x) u;
   with-put = λ y x. refl;
   of-is = λ x is. core-are x is .0;
-  put-is = λ y x y-is is. let k = core-are x is in core-is x (with-clocks y x .core) is (y-is, (k .1 .0, (k .1 .1 .0, (k .1 .1 .1 .0, (k .1 .1 .1 .1 .0, (k .1 .1 .1 .1 .1 .0, (k .1 .1 .1 .1 .1 .1 .0, (k .1 .1 .1 .1 .1 .1 .1 .0, (k .1 .1 .1 .1 .1 .1 .1 .1 .0, tt)))))))));
+  put-is = λ y x y-is is. let k = core-are x is in core-is x (with-clocks y x .core) is (y-is, (k .1 .0, (k .1 .1 .0, (k .1 .1 .1 .0, (k .1 .1 .1 .1 .0, (k .1 .1 .1 .1 .1 .0, (k .1 .1 .1 .1 .1 .1 .0, (k .1 .1 .1 .1 .1 .1 .1 .0, (k .1 .1 .1 .1 .1 .1 .1 .1 .0, (k .1 .1 .1 .1 .1 .1 .1 .1 .1 .0, tt))))))))));
   found = λ t b o. fld t refl (fld t refl (stop t));
   lies = λ t q b o x. sub t 0 refl (sub t 0 refl (whole t));
 }
 
 -- the registers, generators, gates and IRQ flag
 abbrev pub with-voice : Voice → Record → Record
-with-voice y x = record { core = record { clocks = x .core .clocks; voice = y; a = x .core .a; b = x .core .b; c = x .core .c; selected = x .core .selected; accumulator = x .core .accumulator; stamp = x .core .stamp; start = x .core .start }; queue = x .queue }
+with-voice y x = record { core = record { clocks = x .core .clocks; voice = y; a = x .core .a; b = x .core .b; c = x .core .c; selected = x .core .selected; variant = x .core .variant; accumulator = x .core .accumulator; stamp = x .core .stamp; start = x .core .start }; queue = x .queue }
 
 abbrev pub voice : Part lent
 voice = record {
@@ -92,14 +92,14 @@ voice = record {
   with = λ u x. with-path (0 ∷ 1 ∷ []) (whole-val lent x) u;
   with-put = λ y x. refl;
   of-is = λ x is. core-are x is .1 .0;
-  put-is = λ y x y-is is. let k = core-are x is in core-is x (with-voice y x .core) is (k .0, (y-is, (k .1 .1 .0, (k .1 .1 .1 .0, (k .1 .1 .1 .1 .0, (k .1 .1 .1 .1 .1 .0, (k .1 .1 .1 .1 .1 .1 .0, (k .1 .1 .1 .1 .1 .1 .1 .0, (k .1 .1 .1 .1 .1 .1 .1 .1 .0, tt)))))))));
+  put-is = λ y x y-is is. let k = core-are x is in core-is x (with-voice y x .core) is (k .0, (y-is, (k .1 .1 .0, (k .1 .1 .1 .0, (k .1 .1 .1 .1 .0, (k .1 .1 .1 .1 .1 .0, (k .1 .1 .1 .1 .1 .1 .0, (k .1 .1 .1 .1 .1 .1 .1 .0, (k .1 .1 .1 .1 .1 .1 .1 .1 .0, (k .1 .1 .1 .1 .1 .1 .1 .1 .1 .0, tt))))))))));
   found = λ t b o. fld t refl (fld t refl (stop t));
   lies = λ t q b o x. sub t 1 refl (sub t 0 refl (whole t));
 }
 
 -- the drums of the three channels
 abbrev pub with-drum-a : RecordDrum → Record → Record
-with-drum-a y x = record { core = record { clocks = x .core .clocks; voice = x .core .voice; a = record { muted = x .core .a .muted; drum = y; output = x .core .a .output; amplitude = x .core .a .amplitude }; b = x .core .b; c = x .core .c; selected = x .core .selected; accumulator = x .core .accumulator; stamp = x .core .stamp; start = x .core .start }; queue = x .queue }
+with-drum-a y x = record { core = record { clocks = x .core .clocks; voice = x .core .voice; a = record { muted = x .core .a .muted; drum = y; output = x .core .a .output; amplitude = x .core .a .amplitude }; b = x .core .b; c = x .core .c; selected = x .core .selected; variant = x .core .variant; accumulator = x .core .accumulator; stamp = x .core .stamp; start = x .core .start }; queue = x .queue }
 
 abbrev pub drum-a : Part lent
 drum-a = record {
@@ -111,13 +111,13 @@ drum-a = record {
   with = λ u x. with-path (0 ∷ 2 ∷ 1 ∷ []) (whole-val lent x) u;
   with-put = λ y x. refl;
   of-is = λ x is. LL.owed channel′.the-type channel-laws.the-laws (x .core .a) _ (core-are x is .1 .1 .0) .1 .0;
-  put-is = λ y x y-is is. let k = core-are x is in let c = LL.owed channel′.the-type channel-laws.the-laws (x .core .a) _ (k .1 .1 .0) in core-is x (with-drum-a y x .core) is (k .0, (k .1 .0, (LL.owes channel′.the-type channel-laws.the-laws (with-drum-a y x .core .a) (c .0, (y-is, (c .1 .1 .0, (c .1 .1 .1 .0, tt)))), (k .1 .1 .1 .0, (k .1 .1 .1 .1 .0, (k .1 .1 .1 .1 .1 .0, (k .1 .1 .1 .1 .1 .1 .0, (k .1 .1 .1 .1 .1 .1 .1 .0, (k .1 .1 .1 .1 .1 .1 .1 .1 .0, tt)))))))));
+  put-is = λ y x y-is is. let k = core-are x is in let c = LL.owed channel′.the-type channel-laws.the-laws (x .core .a) _ (k .1 .1 .0) in core-is x (with-drum-a y x .core) is (k .0, (k .1 .0, (LL.owes channel′.the-type channel-laws.the-laws (with-drum-a y x .core .a) (c .0, (y-is, (c .1 .1 .0, (c .1 .1 .1 .0, tt)))), (k .1 .1 .1 .0, (k .1 .1 .1 .1 .0, (k .1 .1 .1 .1 .1 .0, (k .1 .1 .1 .1 .1 .1 .0, (k .1 .1 .1 .1 .1 .1 .1 .0, (k .1 .1 .1 .1 .1 .1 .1 .1 .0, (k .1 .1 .1 .1 .1 .1 .1 .1 .1 .0, tt))))))))));
   found = λ t b o. fld t refl (fld t refl (fld t refl (stop t)));
   lies = λ t q b o x. sub t 1 refl (sub t 2 refl (sub t 0 refl (whole t)));
 }
 
 abbrev pub with-drum-b : RecordDrum → Record → Record
-with-drum-b y x = record { core = record { clocks = x .core .clocks; voice = x .core .voice; a = x .core .a; b = record { muted = x .core .b .muted; drum = y; output = x .core .b .output; amplitude = x .core .b .amplitude }; c = x .core .c; selected = x .core .selected; accumulator = x .core .accumulator; stamp = x .core .stamp; start = x .core .start }; queue = x .queue }
+with-drum-b y x = record { core = record { clocks = x .core .clocks; voice = x .core .voice; a = x .core .a; b = record { muted = x .core .b .muted; drum = y; output = x .core .b .output; amplitude = x .core .b .amplitude }; c = x .core .c; selected = x .core .selected; variant = x .core .variant; accumulator = x .core .accumulator; stamp = x .core .stamp; start = x .core .start }; queue = x .queue }
 
 abbrev pub drum-b : Part lent
 drum-b = record {
@@ -129,13 +129,13 @@ drum-b = record {
   with = λ u x. with-path (0 ∷ 3 ∷ 1 ∷ []) (whole-val lent x) u;
   with-put = λ y x. refl;
   of-is = λ x is. LL.owed channel′.the-type channel-laws.the-laws (x .core .b) _ (core-are x is .1 .1 .1 .0) .1 .0;
-  put-is = λ y x y-is is. let k = core-are x is in let c = LL.owed channel′.the-type channel-laws.the-laws (x .core .b) _ (k .1 .1 .1 .0) in core-is x (with-drum-b y x .core) is (k .0, (k .1 .0, (k .1 .1 .0, (LL.owes channel′.the-type channel-laws.the-laws (with-drum-b y x .core .b) (c .0, (y-is, (c .1 .1 .0, (c .1 .1 .1 .0, tt)))), (k .1 .1 .1 .1 .0, (k .1 .1 .1 .1 .1 .0, (k .1 .1 .1 .1 .1 .1 .0, (k .1 .1 .1 .1 .1 .1 .1 .0, (k .1 .1 .1 .1 .1 .1 .1 .1 .0, tt)))))))));
+  put-is = λ y x y-is is. let k = core-are x is in let c = LL.owed channel′.the-type channel-laws.the-laws (x .core .b) _ (k .1 .1 .1 .0) in core-is x (with-drum-b y x .core) is (k .0, (k .1 .0, (k .1 .1 .0, (LL.owes channel′.the-type channel-laws.the-laws (with-drum-b y x .core .b) (c .0, (y-is, (c .1 .1 .0, (c .1 .1 .1 .0, tt)))), (k .1 .1 .1 .1 .0, (k .1 .1 .1 .1 .1 .0, (k .1 .1 .1 .1 .1 .1 .0, (k .1 .1 .1 .1 .1 .1 .1 .0, (k .1 .1 .1 .1 .1 .1 .1 .1 .0, (k .1 .1 .1 .1 .1 .1 .1 .1 .1 .0, tt))))))))));
   found = λ t b o. fld t refl (fld t refl (fld t refl (stop t)));
   lies = λ t q b o x. sub t 1 refl (sub t 3 refl (sub t 0 refl (whole t)));
 }
 
 abbrev pub with-drum-c : RecordDrum → Record → Record
-with-drum-c y x = record { core = record { clocks = x .core .clocks; voice = x .core .voice; a = x .core .a; b = x .core .b; c = record { muted = x .core .c .muted; drum = y; output = x .core .c .output; amplitude = x .core .c .amplitude }; selected = x .core .selected; accumulator = x .core .accumulator; stamp = x .core .stamp; start = x .core .start }; queue = x .queue }
+with-drum-c y x = record { core = record { clocks = x .core .clocks; voice = x .core .voice; a = x .core .a; b = x .core .b; c = record { muted = x .core .c .muted; drum = y; output = x .core .c .output; amplitude = x .core .c .amplitude }; selected = x .core .selected; variant = x .core .variant; accumulator = x .core .accumulator; stamp = x .core .stamp; start = x .core .start }; queue = x .queue }
 
 abbrev pub drum-c : Part lent
 drum-c = record {
@@ -147,14 +147,14 @@ drum-c = record {
   with = λ u x. with-path (0 ∷ 4 ∷ 1 ∷ []) (whole-val lent x) u;
   with-put = λ y x. refl;
   of-is = λ x is. LL.owed channel′.the-type channel-laws.the-laws (x .core .c) _ (core-are x is .1 .1 .1 .1 .0) .1 .0;
-  put-is = λ y x y-is is. let k = core-are x is in let c = LL.owed channel′.the-type channel-laws.the-laws (x .core .c) _ (k .1 .1 .1 .1 .0) in core-is x (with-drum-c y x .core) is (k .0, (k .1 .0, (k .1 .1 .0, (k .1 .1 .1 .0, (LL.owes channel′.the-type channel-laws.the-laws (with-drum-c y x .core .c) (c .0, (y-is, (c .1 .1 .0, (c .1 .1 .1 .0, tt)))), (k .1 .1 .1 .1 .1 .0, (k .1 .1 .1 .1 .1 .1 .0, (k .1 .1 .1 .1 .1 .1 .1 .0, (k .1 .1 .1 .1 .1 .1 .1 .1 .0, tt)))))))));
+  put-is = λ y x y-is is. let k = core-are x is in let c = LL.owed channel′.the-type channel-laws.the-laws (x .core .c) _ (k .1 .1 .1 .1 .0) in core-is x (with-drum-c y x .core) is (k .0, (k .1 .0, (k .1 .1 .0, (k .1 .1 .1 .0, (LL.owes channel′.the-type channel-laws.the-laws (with-drum-c y x .core .c) (c .0, (y-is, (c .1 .1 .0, (c .1 .1 .1 .0, tt)))), (k .1 .1 .1 .1 .1 .0, (k .1 .1 .1 .1 .1 .1 .0, (k .1 .1 .1 .1 .1 .1 .1 .0, (k .1 .1 .1 .1 .1 .1 .1 .1 .0, (k .1 .1 .1 .1 .1 .1 .1 .1 .1 .0, tt))))))))));
   found = λ t b o. fld t refl (fld t refl (fld t refl (stop t)));
   lies = λ t q b o x. sub t 1 refl (sub t 4 refl (sub t 0 refl (whole t)));
 }
 
 -- the selected register
 abbrev pub with-selected : ℕ → Record → Record
-with-selected y x = record { core = record { clocks = x .core .clocks; voice = x .core .voice; a = x .core .a; b = x .core .b; c = x .core .c; selected = y; accumulator = x .core .accumulator; stamp = x .core .stamp; start = x .core .start }; queue = x .queue }
+with-selected y x = record { core = record { clocks = x .core .clocks; voice = x .core .voice; a = x .core .a; b = x .core .b; c = x .core .c; selected = y; variant = x .core .variant; accumulator = x .core .accumulator; stamp = x .core .stamp; start = x .core .start }; queue = x .queue }
 
 abbrev pub selected : Part lent
 selected = record {
@@ -166,66 +166,85 @@ selected = record {
   with = λ u x. with-path (0 ∷ 5 ∷ []) (whole-val lent x) u;
   with-put = λ y x. refl;
   of-is = λ x is. core-are x is .1 .1 .1 .1 .1 .0;
-  put-is = λ y x y-is is. let k = core-are x is in core-is x (with-selected y x .core) is (k .0, (k .1 .0, (k .1 .1 .0, (k .1 .1 .1 .0, (k .1 .1 .1 .1 .0, (y-is, (k .1 .1 .1 .1 .1 .1 .0, (k .1 .1 .1 .1 .1 .1 .1 .0, (k .1 .1 .1 .1 .1 .1 .1 .1 .0, tt)))))))));
+  put-is = λ y x y-is is. let k = core-are x is in core-is x (with-selected y x .core) is (k .0, (k .1 .0, (k .1 .1 .0, (k .1 .1 .1 .0, (k .1 .1 .1 .1 .0, (y-is, (k .1 .1 .1 .1 .1 .1 .0, (k .1 .1 .1 .1 .1 .1 .1 .0, (k .1 .1 .1 .1 .1 .1 .1 .1 .0, (k .1 .1 .1 .1 .1 .1 .1 .1 .1 .0, tt))))))))));
   found = λ t b o. fld t refl (fld t refl (stop t));
   lies = λ t q b o x. sub t 5 refl (sub t 0 refl (whole t));
 }
 
--- the accumulator
-abbrev pub with-accumulator : ℕ → Record → Record
-with-accumulator y x = record { core = record { clocks = x .core .clocks; voice = x .core .voice; a = x .core .a; b = x .core .b; c = x .core .c; selected = x .core .selected; accumulator = y; stamp = x .core .stamp; start = x .core .start }; queue = x .queue }
+-- the variant
+abbrev pub with-variant : ℕ → Record → Record
+with-variant y x = record { core = record { clocks = x .core .clocks; voice = x .core .voice; a = x .core .a; b = x .core .b; c = x .core .c; selected = x .core .selected; variant = y; accumulator = x .core .accumulator; stamp = x .core .stamp; start = x .core .start }; queue = x .queue }
 
-abbrev pub accumulator : Part lent
-accumulator = record {
-  X = u32f;
+abbrev pub variant : Part lent
+variant = record {
+  X = u8f;
   path = field 0 ∷ field 6 ∷ [];
   at = λ o. (o + offset record-laws.mir 0) + offset core-laws.mir 6;
-  of = λ x. x .core .accumulator;
-  put = with-accumulator;
+  of = λ x. x .core .variant;
+  put = with-variant;
   with = λ u x. with-path (0 ∷ 6 ∷ []) (whole-val lent x) u;
   with-put = λ y x. refl;
   of-is = λ x is. core-are x is .1 .1 .1 .1 .1 .1 .0;
-  put-is = λ y x y-is is. let k = core-are x is in core-is x (with-accumulator y x .core) is (k .0, (k .1 .0, (k .1 .1 .0, (k .1 .1 .1 .0, (k .1 .1 .1 .1 .0, (k .1 .1 .1 .1 .1 .0, (y-is, (k .1 .1 .1 .1 .1 .1 .1 .0, (k .1 .1 .1 .1 .1 .1 .1 .1 .0, tt)))))))));
+  put-is = λ y x y-is is. let k = core-are x is in core-is x (with-variant y x .core) is (k .0, (k .1 .0, (k .1 .1 .0, (k .1 .1 .1 .0, (k .1 .1 .1 .1 .0, (k .1 .1 .1 .1 .1 .0, (y-is, (k .1 .1 .1 .1 .1 .1 .1 .0, (k .1 .1 .1 .1 .1 .1 .1 .1 .0, (k .1 .1 .1 .1 .1 .1 .1 .1 .1 .0, tt))))))))));
   found = λ t b o. fld t refl (fld t refl (stop t));
   lies = λ t q b o x. sub t 6 refl (sub t 0 refl (whole t));
 }
 
--- the stamp of later writes
-abbrev pub with-stamp : ℕ → Record → Record
-with-stamp y x = record { core = record { clocks = x .core .clocks; voice = x .core .voice; a = x .core .a; b = x .core .b; c = x .core .c; selected = x .core .selected; accumulator = x .core .accumulator; stamp = y; start = x .core .start }; queue = x .queue }
+-- the accumulator
+abbrev pub with-accumulator : ℕ → Record → Record
+with-accumulator y x = record { core = record { clocks = x .core .clocks; voice = x .core .voice; a = x .core .a; b = x .core .b; c = x .core .c; selected = x .core .selected; variant = x .core .variant; accumulator = y; stamp = x .core .stamp; start = x .core .start }; queue = x .queue }
 
-abbrev pub stamp : Part lent
-stamp = record {
-  X = u64f;
+abbrev pub accumulator : Part lent
+accumulator = record {
+  X = u32f;
   path = field 0 ∷ field 7 ∷ [];
   at = λ o. (o + offset record-laws.mir 0) + offset core-laws.mir 7;
-  of = λ x. x .core .stamp;
-  put = with-stamp;
+  of = λ x. x .core .accumulator;
+  put = with-accumulator;
   with = λ u x. with-path (0 ∷ 7 ∷ []) (whole-val lent x) u;
   with-put = λ y x. refl;
   of-is = λ x is. core-are x is .1 .1 .1 .1 .1 .1 .1 .0;
-  put-is = λ y x y-is is. let k = core-are x is in core-is x (with-stamp y x .core) is (k .0, (k .1 .0, (k .1 .1 .0, (k .1 .1 .1 .0, (k .1 .1 .1 .1 .0, (k .1 .1 .1 .1 .1 .0, (k .1 .1 .1 .1 .1 .1 .0, (y-is, (k .1 .1 .1 .1 .1 .1 .1 .1 .0, tt)))))))));
+  put-is = λ y x y-is is. let k = core-are x is in core-is x (with-accumulator y x .core) is (k .0, (k .1 .0, (k .1 .1 .0, (k .1 .1 .1 .0, (k .1 .1 .1 .1 .0, (k .1 .1 .1 .1 .1 .0, (k .1 .1 .1 .1 .1 .1 .0, (y-is, (k .1 .1 .1 .1 .1 .1 .1 .1 .0, (k .1 .1 .1 .1 .1 .1 .1 .1 .1 .0, tt))))))))));
   found = λ t b o. fld t refl (fld t refl (stop t));
   lies = λ t q b o x. sub t 7 refl (sub t 0 refl (whole t));
 }
 
+-- the stamp of later writes
+abbrev pub with-stamp : ℕ → Record → Record
+with-stamp y x = record { core = record { clocks = x .core .clocks; voice = x .core .voice; a = x .core .a; b = x .core .b; c = x .core .c; selected = x .core .selected; variant = x .core .variant; accumulator = x .core .accumulator; stamp = y; start = x .core .start }; queue = x .queue }
+
+abbrev pub stamp : Part lent
+stamp = record {
+  X = u64f;
+  path = field 0 ∷ field 8 ∷ [];
+  at = λ o. (o + offset record-laws.mir 0) + offset core-laws.mir 8;
+  of = λ x. x .core .stamp;
+  put = with-stamp;
+  with = λ u x. with-path (0 ∷ 8 ∷ []) (whole-val lent x) u;
+  with-put = λ y x. refl;
+  of-is = λ x is. core-are x is .1 .1 .1 .1 .1 .1 .1 .1 .0;
+  put-is = λ y x y-is is. let k = core-are x is in core-is x (with-stamp y x .core) is (k .0, (k .1 .0, (k .1 .1 .0, (k .1 .1 .1 .0, (k .1 .1 .1 .1 .0, (k .1 .1 .1 .1 .1 .0, (k .1 .1 .1 .1 .1 .1 .0, (k .1 .1 .1 .1 .1 .1 .1 .0, (y-is, (k .1 .1 .1 .1 .1 .1 .1 .1 .1 .0, tt))))))))));
+  found = λ t b o. fld t refl (fld t refl (stop t));
+  lies = λ t q b o x. sub t 8 refl (sub t 0 refl (whole t));
+}
+
 -- the next word's start
 abbrev pub with-start : ℕ → Record → Record
-with-start y x = record { core = record { clocks = x .core .clocks; voice = x .core .voice; a = x .core .a; b = x .core .b; c = x .core .c; selected = x .core .selected; accumulator = x .core .accumulator; stamp = x .core .stamp; start = y }; queue = x .queue }
+with-start y x = record { core = record { clocks = x .core .clocks; voice = x .core .voice; a = x .core .a; b = x .core .b; c = x .core .c; selected = x .core .selected; variant = x .core .variant; accumulator = x .core .accumulator; stamp = x .core .stamp; start = y }; queue = x .queue }
 
 abbrev pub start : Part lent
 start = record {
   X = u64f;
-  path = field 0 ∷ field 8 ∷ [];
-  at = λ o. (o + offset record-laws.mir 0) + offset core-laws.mir 8;
+  path = field 0 ∷ field 9 ∷ [];
+  at = λ o. (o + offset record-laws.mir 0) + offset core-laws.mir 9;
   of = λ x. x .core .start;
   put = with-start;
-  with = λ u x. with-path (0 ∷ 8 ∷ []) (whole-val lent x) u;
+  with = λ u x. with-path (0 ∷ 9 ∷ []) (whole-val lent x) u;
   with-put = λ y x. refl;
-  of-is = λ x is. core-are x is .1 .1 .1 .1 .1 .1 .1 .1 .0;
-  put-is = λ y x y-is is. let k = core-are x is in core-is x (with-start y x .core) is (k .0, (k .1 .0, (k .1 .1 .0, (k .1 .1 .1 .0, (k .1 .1 .1 .1 .0, (k .1 .1 .1 .1 .1 .0, (k .1 .1 .1 .1 .1 .1 .0, (k .1 .1 .1 .1 .1 .1 .1 .0, (y-is, tt)))))))));
+  of-is = λ x is. core-are x is .1 .1 .1 .1 .1 .1 .1 .1 .1 .0;
+  put-is = λ y x y-is is. let k = core-are x is in core-is x (with-start y x .core) is (k .0, (k .1 .0, (k .1 .1 .0, (k .1 .1 .1 .0, (k .1 .1 .1 .1 .0, (k .1 .1 .1 .1 .1 .0, (k .1 .1 .1 .1 .1 .1 .0, (k .1 .1 .1 .1 .1 .1 .1 .0, (k .1 .1 .1 .1 .1 .1 .1 .1 .0, (y-is, tt))))))))));
   found = λ t b o. fld t refl (fld t refl (stop t));
-  lies = λ t q b o x. sub t 8 refl (sub t 0 refl (whole t));
+  lies = λ t q b o x. sub t 9 refl (sub t 0 refl (whole t));
 }
 
 -- the ring's arrays, its place and its count

@@ -11,6 +11,7 @@ pub fn in_range(lent: &Record) -> bool
     chip::parts_in(
         lent.core.clocks,
         lent.core.accumulator,
+        lent.core.variant,
         lent.core.voice,
         lent.core.selected,
         lent.queue.registers,

@@ -1,6 +1,7 @@
--- Bounds of the level's rules, for a caller's proof to lean on. 01, "One tick, one word". Assumes nothing.
-use mathlib.Core.Bool.{Bool}
-use Prim.Native.Nat.{ℕ, _*_, _/_, _%_, _≤_, _<_}
+-- Bounds of the level's rules, for a caller's proof to lean on, and 01's own rule, variant 0's. 01, "One tick, one word". Assumes nothing.
+use mathlib.Core.Bool.{Bool, cond}
+use mathlib.Core.Path.{_≡_, refl}
+use Prim.Native.Nat.{ℕ, _+_, _*_, _/_, _%_, _≤_, _<_}
 use native.Mathlib.Nat.{le-trans, lt-of-le-of-lt, div-le-self}
 use native.Mathlib.Omega.{arith}
 use lib.Bits.{and-le-l}
@@ -8,12 +9,28 @@ use lib.Dec.{eqb}
 use Rattle.laws.proofs.Tests.{by-cond}
 use Rattle.tables.specs.Levels.{levelOf}
 use Rattle.tables.proofs.Laws.{level-le}
-use Rattle.levels.specs.Levels.{levelUsed, gatedLevel, loudnessOf}
+use Rattle.levels.specs.Levels.{fixedLevel, envelopeUsed, levelUsed, gatedLevel, loudnessOf}
 
--- a volume gives a level index where the envelope does
-pub used-lt : (volume envelope : ℕ) → envelope < 32 → levelUsed volume envelope < 32
+-- variant 0 is 01's rule, unchanged: "the envelope's if bit 4 of its volume is set, else twice the volume"
+pub variant-0 : (volume envelope : ℕ) → levelUsed 0 volume envelope ≡ cond (eqb (volume / 16 % 2) 1) envelope (volume % 16 * 2)
+unfolding levelUsed envelopeUsed fixedLevel
+variant-0 v e = refl
+
+pub fixed-lt : (variant volume : ℕ) → volume < 16 → fixedLevel variant volume < 32
+unfolding fixedLevel
+fixed-lt a v h =
+    by-cond (λ n. n < 32) (eqb a 1) (cond (eqb v 0) 0 (v * 2 + 1)) (v * 2)
+    (λ _. by-cond (λ n. n < 32) (eqb v 0) 0 (v * 2 + 1) (λ _. omega arith) (λ _. omega arith)) (λ _. omega arith)
+
+envelope-lt : (variant level : ℕ) → level < 32 → envelopeUsed variant level < 32
+unfolding envelopeUsed
+envelope-lt a e h = by-cond (λ n. n < 32) (eqb a 2) (e / 2 * 2) e (λ _. omega arith) (λ _. h)
+
+-- in every variant a volume gives a level index where the envelope does
+pub used-lt : (variant volume envelope : ℕ) → envelope < 32 → levelUsed variant volume envelope < 32
 unfolding levelUsed
-used-lt v e h = by-cond (λ n. n < 32) (eqb (v / 16 % 2) 1) e (v % 16 * 2) (λ _. h) (λ _. omega arith)
+used-lt a v e h =
+    by-cond (λ n. n < 32) (eqb (v / 16 % 2) 1) (envelopeUsed a e) (fixedLevel a (v % 16)) (λ _. envelope-lt a e h) (λ _. fixed-lt a (v % 16) (omega arith))
 
 -- the gate only takes bits away
 pub gated-lt : (index gate : ℕ) → index < 32 → gatedLevel index gate < 32

@@ -12,8 +12,8 @@ abbrev pub summed : Heard → Heard → Heard → Mixed
 summed a b c = record { word = a .out + b .out + c .out; channels = record { a = a .channel; b = b .channel; c = c .channel } }
 
 -- The word is the sum of three channel outputs. The gate has five bits for each channel, A's at the bottom.
-unfoldable pub mixed : Channels → List ℕ → List Bool → ℕ → ℕ → Mixed
-mixed s volumes halves envelope gate =
-    summed (sounded (s .a) (getD volumes 0 0) (getD halves 0 false) envelope gate)
-    (sounded (s .b) (getD volumes 1 0) (getD halves 1 false) envelope (gate / 32))
-    (sounded (s .c) (getD volumes 2 0) (getD halves 2 false) envelope (gate / 1024))
+unfoldable pub mixed : ℕ → Channels → List ℕ → List Bool → ℕ → ℕ → Mixed
+mixed variant s volumes halves envelope gate =
+    summed (sounded variant (s .a) (getD volumes 0 0) (getD halves 0 false) envelope gate)
+    (sounded variant (s .b) (getD volumes 1 0) (getD halves 1 false) envelope (gate / 32))
+    (sounded variant (s .c) (getD volumes 2 0) (getD halves 2 false) envelope (gate / 1024))

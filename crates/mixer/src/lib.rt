@@ -12,6 +12,7 @@ pub struct Mixed {
 
 // R8 to R10, whether each is halved, the envelope's level, and the gate of all ticks.
 pub fn mix(
+    variant: u8,
     channels: Channels,
     volumes: [u8; 3],
     halves: [bool; 3],
@@ -21,17 +22,15 @@ pub fn mix(
 ) -> Mixed
     requires { ⌜ envelope < 32 ⌝ }
     requires { ⌜ now table ≡ levels ⌝ }
-    ensures { λ r. ⌜ r ≡ mixed channels volumes halves envelope gate ⌝ }
+    ensures { λ r. ⌜ r ≡ mixed variant channels volumes halves envelope gate ⌝ }
 {
     let a = channels
         .a
-        .sound(volumes[0], halves[0], envelope, gate, table);
+        .sound(variant, volumes[0], halves[0], envelope, gate, table);
     let b = channels
         .b
-        .sound(volumes[1], halves[1], envelope, gate >> 5, table);
-    let c = channels
-        .c
-        .sound(volumes[2], halves[2], envelope, gate >> 10, table);
+        .sound(variant, volumes[1], halves[1], envelope, gate >> 5, table);
+    let c = channels.c.sound(variant, volumes[2], halves[2], envelope, gate >> 10, table);
     let word = a.out + b.out + c.out;
     let a = a.channel;
     let b = b.channel;
@@ -42,6 +41,7 @@ pub fn mix(
 
 // What the channels keep of a word whose value is known: a block's last, by its gate.
 pub fn kept(
+    variant: u8,
     channels: Channels,
     volumes: [u8; 3],
     halves: [bool; 3],
@@ -51,17 +51,15 @@ pub fn kept(
 ) -> Channels
     requires { ⌜ envelope < 32 ⌝ }
     requires { ⌜ now table ≡ levels ⌝ }
-    ensures { λ r. ⌜ r ≡ mixed channels volumes halves envelope last .channels ⌝ }
+    ensures { λ r. ⌜ r ≡ mixed variant channels volumes halves envelope last .channels ⌝ }
 {
     let a = channels
         .a
-        .sound(volumes[0], halves[0], envelope, last, table);
+        .sound(variant, volumes[0], halves[0], envelope, last, table);
     let b = channels
         .b
-        .sound(volumes[1], halves[1], envelope, last >> 5, table);
-    let c = channels
-        .c
-        .sound(volumes[2], halves[2], envelope, last >> 10, table);
+        .sound(variant, volumes[1], halves[1], envelope, last >> 5, table);
+    let c = channels.c.sound(variant, volumes[2], halves[2], envelope, last >> 10, table);
     let a = a.channel;
     let b = b.channel;
     let c = c.channel;

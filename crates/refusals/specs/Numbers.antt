@@ -53,6 +53,10 @@ dumpTooLong = 11
 abbrev pub stampLower : ℕ
 stampLower = 12
 
+-- a chip made with a variant above 2 (02, request 05)
+abbrev pub noSuchVariant : ℕ
+noSuchVariant = 13
+
 -- a handed-in chip record out of range
 abbrev pub outOfRange : ℕ
 outOfRange = 22

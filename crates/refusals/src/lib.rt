@@ -25,4 +25,6 @@ pub const DUMP_TOO_LONG: u8 = 11;
 
 pub const STAMP_LOWER: u8 = 12;
 
+pub const NO_SUCH_VARIANT: u8 = 13;
+
 pub const OUT_OF_RANGE: u8 = 22;

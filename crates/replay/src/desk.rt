@@ -42,6 +42,7 @@ fn alone(chip: Chip, lent: bool, call: Call) -> Answered {
     match call {
         Call::Change(x) => change(chip, lent, x),
         Call::New(master, rate) => calls::with_clocks(master, rate),
+        Call::Make(master, rate, variant) => calls::with_variant(master, rate, variant),
         Call::Default => answers::accepted(calls::new()),
         Call::Set(setting) => answers::accepted(with_setting(chip, setting)),
         _ => answers::accepted(chip),

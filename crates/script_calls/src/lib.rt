@@ -9,6 +9,7 @@ pub use settings::Setting;
 
 pub enum Call {
     New(u32, u32),
+    Make(u32, u32, u8),
     Default,
     Change(Change),
     Look(Look),

@@ -39,10 +39,15 @@ pub fn call_of(line: &[u8]) -> Call {
         return with_one(name, x);
     }
     let third = seek(line, second + 1, b' ');
-    if third < line.len() {
+    let y = &line[second + 1..third];
+    if third >= line.len() {
+        return with_two(name, x, y);
+    }
+    let fourth = seek(line, third + 1, b' ');
+    if fourth < line.len() {
         return Call::Bad;
     }
-    with_two(name, x, &line[second + 1..third])
+    with_three(name, x, y, &line[third + 1..fourth])
 }
 
 fn is_comment(line: &[u8]) -> bool {
@@ -206,4 +211,28 @@ fn with_bytes(name: &[u8], x: &[u8], y: &[u8]) -> Call {
         2 => Call::Change(Change::PortNow(narrow::byte(first), narrow::byte(value))),
         _ => Call::Bad,
     }
+}
+
+fn with_three(name: &[u8], x: &[u8], y: &[u8], z: &[u8]) -> Call {
+    if check::same(name, b"make") {
+        return make(x, y, z);
+    }
+    Call::Bad
+}
+
+fn make(x: &[u8], y: &[u8], z: &[u8]) -> Call {
+    let Number::Is(master) = decimal(x, CLOCK) else {
+        return Call::Bad;
+    };
+    let Number::Is(rate) = decimal(y, CLOCK) else {
+        return Call::Bad;
+    };
+    let Number::Is(variant) = decimal(z, BYTE) else {
+        return Call::Bad;
+    };
+    Call::Make(
+        narrow::word(master),
+        narrow::word(rate),
+        narrow::byte(variant),
+    )
 }

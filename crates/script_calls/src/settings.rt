@@ -11,6 +11,7 @@ pub enum Setting {
     Rate(u32),
     Internal(u32),
     Cycles(u64),
+    Variant(u8),
     Accumulator(u32),
     Stamp(u64),
     Start(u64),
@@ -102,7 +103,7 @@ fn half(place: usize, n: u16) -> Setting {
 
 fn of_byte(field: &[u8], value: &[u8]) -> Setting {
     let place = place_of(
-        b"R0 R1 R2 R3 R4 R5 R6 R7 R8 R9 R10 R11 R12 R13 select noise_period waiting_register",
+        b"R0 R1 R2 R3 R4 R5 R6 R7 R8 R9 R10 R11 R12 R13 variant select noise_period waiting_register",
         field,
     );
     if place == NOWHERE {
@@ -117,8 +118,9 @@ fn of_byte(field: &[u8], value: &[u8]) -> Setting {
 fn byte(place: usize, n: u8) -> Setting {
     match place {
         0..=13 => Setting::Register(place, n),
-        14 => Setting::Select(n),
-        15 => Setting::NoisePeriod(n),
+        14 => Setting::Variant(n),
+        15 => Setting::Select(n),
+        16 => Setting::NoisePeriod(n),
         _ => Setting::WaitingRegister(n),
     }
 }

@@ -67,7 +67,7 @@ fn put_rest(out: &mut [u8], at: usize, core: Core, waiting: usize) -> usize {
     put_form(
         out,
         at,
-        b" waiting=# clocks=#,#,# accumulator=# stamp=# start=# irq=#\n",
+        b" waiting=# clocks=#,#,# accumulator=# stamp=# start=# irq=# variant=#\n",
         &[
             waiting as u64,
             clocks.internal as u64,
@@ -77,6 +77,7 @@ fn put_rest(out: &mut [u8], at: usize, core: Core, waiting: usize) -> usize {
             core.stamp,
             core.start,
             voice.irq as u64,
+            core.variant as u64,
         ],
     )
 }

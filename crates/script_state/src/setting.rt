@@ -39,6 +39,7 @@ fn core(core: Core, setting: Setting) -> Core {
     next.clocks = clocks(core.clocks, setting);
     next.voice = voice(core.voice, setting);
     match setting {
+        Setting::Variant(n) => next.variant = n,
         Setting::Select(n) => next.selected = n,
         Setting::Accumulator(n) => next.accumulator = n,
         Setting::Stamp(n) => next.stamp = n,

@@ -15,10 +15,19 @@ use Rattle.clocking_word.specs.Word.{Word, wordOf}
 use Rattle.steps_words.specs.declared.WordStep.{WordStep}
 
 -- A chip of these parts. To a word its selection and its stamp say nothing.
-abbrev pub chipAt : Clocks → Voice → Channels → ℕ → ℕ → Queue → Chip
-chipAt clocks voice channels accumulator start queue =
+abbrev pub chipAt : Clocks → ℕ → Voice → Channels → ℕ → ℕ → Queue → Chip
+chipAt clocks variant voice channels accumulator start queue =
     record {
-      core = record { clocks = clocks; voice = voice; channels = channels; selected = 0; accumulator = accumulator; stamp = 0; start = start };
+      core = record {
+        clocks = clocks;
+        voice = voice;
+        channels = channels;
+        selected = 0;
+        variant = variant;
+        accumulator = accumulator;
+        stamp = 0;
+        start = start;
+      };
       queue = queue;
     }
 

@@ -27,6 +27,7 @@ pub fn compute_next_sample<'t>(
     values: &'t [u8; 256],
     ok: bool,
     clocks: Clocks,
+    variant: u8,
     voice: Voice,
     channels: Channels,
     accumulator: u32,
@@ -34,8 +35,8 @@ pub fn compute_next_sample<'t>(
     head: usize,
     count: usize,
 ) -> WordStep
-    requires { ⌜ (ok ≡ true → Playable (chipAt clocks voice channels accumulator start (ring (now stamps) (now registers) (now values) head count))) ⌝ }
-    ensures { λ r. ⌜ r ≡ wordStep ok (chipAt clocks voice channels accumulator start (ring (now (stamps .entry)) (now (registers .entry)) (now (values .entry)) head count)) ⌝ }
+    requires { ⌜ (ok ≡ true → Playable (chipAt clocks variant voice channels accumulator start (ring (now stamps) (now registers) (now values) head count))) ⌝ }
+    ensures { λ r. ⌜ r ≡ wordStep ok (chipAt clocks variant voice channels accumulator start (ring (now (stamps .entry)) (now (registers .entry)) (now (values .entry)) head count)) ⌝ }
 {
     if !ok {
         return unplayed(
@@ -58,6 +59,7 @@ pub fn compute_next_sample<'t>(
         voice,
         channels,
         selected: 0,
+        variant,
         accumulator,
         stamp: 0,
         start,

@@ -103,5 +103,5 @@ fn mixed(s: Channels, i: u64) -> Mixed {
 
 fn mix(s: Channels, volumes: [u8; 3], halves: [bool; 3], envelope: u8, gate: u32) -> Mixed {
     let table = tables::level_table();
-    mixer::mix(s, volumes, halves, envelope % 32, gate, &table)
+    mixer::mix(0, s, volumes, halves, envelope % 32, gate, &table)
 }

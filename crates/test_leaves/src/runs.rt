@@ -160,7 +160,7 @@ fn number(kind: u64, n: u32, i: u8) -> u64 {
         form::LEVELS => table_level(i % 32),
         form::ROW => table_entry(n % 10, i % 128),
         form::SEEDS => power_on::random_seed(seed(i)) as u64,
-        form::USED => levels::level_used(i, (n % 32) as u8) as u64,
+        form::USED => levels::level_used(0, i, (n % 32) as u8) as u64,
         _ => levels::gated_level(i, n) as u64,
     }
 }

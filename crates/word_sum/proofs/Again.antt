@@ -37,14 +37,14 @@ heard-alike c d gated ungated half k = rw (k .muted, k .drum) (ap (λ (r : Heard
     by-drum (Sample s) = refl
     by-drum Off = refl
 
-sounded-again : (c : Channel) (v v′ : ℕ) (half half′ : Bool) (e e′ g g′ : ℕ) → sounded (sounded c v half e g .channel) v′ half′ e′ g′ ≡ sounded c v′ half′ e′ g′
+sounded-again : (variant : ℕ) (c : Channel) (v v′ : ℕ) (half half′ : Bool) (e e′ g g′ : ℕ) → sounded variant (sounded variant c v half e g .channel) v′ half′ e′ g′ ≡ sounded variant c v′ half′ e′ g′
 unfolding sounded
-sounded-again c v v′ half half′ e e′ g g′ = heard-alike c _ _ _ half′ (heard-keeps c _ _ half)
+sounded-again a c v v′ half half′ e e′ g g′ = heard-alike c _ _ _ half′ (heard-keeps c _ _ half)
 
-pub mixed-again : (s : Channels) (v v′ : List ℕ) (half half′ : List Bool) (e e′ g g′ : ℕ)
-    → mixed (mixed s v half e g .channels) v′ half′ e′ g′ ≡ mixed s v′ half′ e′ g′
+pub mixed-again : (variant : ℕ) (s : Channels) (v v′ : List ℕ) (half half′ : List Bool) (e e′ g g′ : ℕ)
+    → mixed variant (mixed variant s v half e g .channels) v′ half′ e′ g′ ≡ mixed variant s v′ half′ e′ g′
 unfolding mixed
-mixed-again s v v′ half half′ e e′ g g′ = λ i.
-    summed (sounded-again (s .a) (getD v 0 0) (getD v′ 0 0) (getD half 0 false) (getD half′ 0 false) e e′ g g′ i)
-    (sounded-again (s .b) (getD v 1 0) (getD v′ 1 0) (getD half 1 false) (getD half′ 1 false) e e′ (g / 32) (g′ / 32) i)
-    (sounded-again (s .c) (getD v 2 0) (getD v′ 2 0) (getD half 2 false) (getD half′ 2 false) e e′ (g / 1024) (g′ / 1024) i)
+mixed-again a s v v′ half half′ e e′ g g′ = λ i.
+    summed (sounded-again a (s .a) (getD v 0 0) (getD v′ 0 0) (getD half 0 false) (getD half′ 0 false) e e′ g g′ i)
+    (sounded-again a (s .b) (getD v 1 0) (getD v′ 1 0) (getD half 1 false) (getD half′ 1 false) e e′ (g / 32) (g′ / 32) i)
+    (sounded-again a (s .c) (getD v 2 0) (getD v′ 2 0) (getD half 2 false) (getD half′ 2 false) e e′ (g / 1024) (g′ / 1024) i)

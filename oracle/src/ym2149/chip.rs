@@ -662,6 +662,10 @@ impl Ym2149 {
         &mut self.mixer.config
     }
 
+    pub fn set_variant(&mut self, variant: u8) {
+        self.mixer.set_variant(variant);
+    }
+
     /// Stamp, register and value of each, front first.
     pub fn set_waiting(&mut self, writes: &[(u64, u8, u8)]) {
         let waiting = |&(cpu_cycle, register, value): &(u64, u8, u8)| PendingWrite { cpu_cycle, register, value };

@@ -56,6 +56,7 @@ pub struct Mixer {
     pub config: MixerConfig,
     /// Per-channel state
     pub channels: [ChannelState; NUM_CHANNELS],
+    variant: u8, // oracle
 }
 
 impl Mixer {
@@ -92,6 +93,7 @@ impl Mixer {
                 // Fixed volume (shift left to match envelope range)
                 (vol_reg as u32) << 1
             };
+            let level = self.used(vol_reg, level); // oracle
             levels |= level << (i * 5);
         }
 
@@ -215,7 +217,7 @@ impl Mixer {
 }
 
 // =============================================================================
-// Oracle: a view of the private fields, and a setter. Nothing above reads or calls them.
+// Oracle: a view of the private fields, and a setter. Nothing above reads or calls them. Last, the variant, which one line above asks.
 // =============================================================================
 
 impl MixerConfig {
@@ -227,5 +229,27 @@ impl MixerConfig {
     pub fn set_masks(&mut self, tone: u32, noise: u32) {
         self.tone_mask = tone;
         self.noise_mask = noise;
+    }
+}
+
+/// 02, request 05. A new mixer is of variant 0, which is the crate's; of the others this is no longer the crate, but a second reading.
+impl Mixer {
+    pub fn variant(&self) -> u8 {
+        self.variant
+    }
+
+    pub fn set_variant(&mut self, variant: u8) {
+        self.variant = variant;
+    }
+
+    /// The level used in the place of the crate's. The plain build, which is timed, has the crate's alone.
+    #[inline]
+    fn used(&self, vol_reg: u8, level: u32) -> u32 {
+        match (self.variant, vol_reg) {
+            _ if cfg!(feature = "plain") => level,
+            (1, 1..=15) => level + 1,
+            (2, 16..) => level & !1,
+            _ => level,
+        }
     }
 }

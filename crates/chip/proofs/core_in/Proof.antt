@@ -12,12 +12,15 @@ returns : tie.Need-returns
 unfolding coreIn
 returns c = search (tests, calls)
 
-voice-in-requires : tie.Need-voice-in-requires
-voice-in-requires c κs = search needs
+variant-in-requires : tie.Need-variant-in-requires
+variant-in-requires c κs = search needs
 
 returns-2 : tie.Need-returns-2
 unfolding coreIn
 returns-2 c = search (tests, calls)
+
+voice-in-requires : tie.Need-voice-in-requires
+voice-in-requires c κs = search needs
 
 returns-3 : tie.Need-returns-3
 unfolding coreIn
@@ -27,6 +30,10 @@ returns-4 : tie.Need-returns-4
 unfolding coreIn
 returns-4 c = search (tests, calls)
 
+returns-5 : tie.Need-returns-5
+unfolding coreIn
+returns-5 c = search (tests, calls)
+
 pub core-in-spec : {M : Type 1} → statement M
 core-in-spec =
-    tie.close (tie.spec clocks-in-requires returns voice-in-requires returns-2 returns-3 returns-4)
+    tie.close (tie.spec clocks-in-requires returns variant-in-requires returns-2 voice-in-requires returns-3 returns-4 returns-5)

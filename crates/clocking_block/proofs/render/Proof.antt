@@ -11,20 +11,23 @@ use Rattle.clocking_block.proofs.render.Statement.{statement}
 use Rattle.clocking_block.proofs.render.Tie as tie
 
 abbrev Inv-loop : tie.InvT-loop
-Inv-loop stamps registers values out₀ place waiting table core₀ wave₀ head₀ count₀ gate₀ ticks₀ i₀ out core wave head count gate ticks i =
-    Filling table wave (chipWith core₀ (ring stamps registers values head₀ count₀)) core (ring stamps registers values head count) gate out₀ out ticks i
+Inv-loop stamps registers values out₀ place waiting table scale core₀ wave₀ head₀ count₀ gate₀ ticks₀ i₀ out core wave head count gate ticks i =
+    Filling table wave scale (chipWith core₀ (ring stamps registers values head₀ count₀)) core (ring stamps registers values head count) gate out₀ out ticks i
 
 abbrev μ-loop : tie.MeasureT-loop
-μ-loop stamps registers values out₀ place waiting table core₀ wave₀ head₀ count₀ gate₀ ticks₀ i₀ out core wave head count gate ticks i = length out₀ - i
+μ-loop stamps registers values out₀ place waiting table scale core₀ wave₀ head₀ count₀ gate₀ ticks₀ i₀ out core wave head count gate ticks i = length out₀ - i
 
 level-table-requires : tie.Need-level-table-requires Inv-loop μ-loop
 level-table-requires c κs = search needs
+
+scale-of-requires : tie.Need-scale-of-requires Inv-loop μ-loop
+scale-of-requires c κs = search needs
 
 wave-of-requires : tie.Need-wave-of-requires Inv-loop μ-loop
 wave-of-requires c κs = search needs
 
 loop-holds : tie.Need-loop-holds Inv-loop μ-loop
-loop-holds c = let pre = c .before .before .before .pre in filling-start (c .before .level-table .ensures) (c .wave-of .ensures) (pre .0) (pre .1 .0) (pre .1 .1 .0) (pre .1 .1 .1)
+loop-holds c = let pre = c .before .before .before .before .pre in filling-start (c .before .before .level-table .ensures) (c .wave-of .ensures) (c .before .scale-of .ensures) (pre .0) (pre .1 .0) (pre .1 .1 .0) (pre .1 .1 .1)
 
 add-end : tie.Need-add-end Inv-loop μ-loop
 add-end c = record { fits = next-soon (c .before .before .loop .inv) (c .before .loop-test .taken) }
@@ -42,7 +45,7 @@ run-words-requires : tie.Need-run-words-requires Inv-loop μ-loop
 run-words-requires c κs =
     let l = c .before .before .before .before .before .before .before in
     let inv = l .before .loop .inv in
-    (due-ok inv (c .before .before .before .before .before .drain .ensures), (inv .table, (c .before .before .before .wave-after .ensures, ((l .loop-test .taken, omega (arith, inv .long, inv .room)), all-soon inv))))
+    (due-ok inv (c .before .before .before .before .before .drain .ensures), (inv .table, (c .before .before .before .wave-after .ensures, (inv .scale, ((l .loop-test .taken, omega (arith, inv .long, inv .room)), all-soon inv)))))
 
 add-ticks : tie.Need-add-ticks Inv-loop μ-loop
 add-ticks c =
@@ -87,6 +90,7 @@ render-spec =
     Inv-loop
     μ-loop
     level-table-requires
+    scale-of-requires
     wave-of-requires
     loop-holds
     add-end

@@ -5,19 +5,24 @@ use native.Mathlib.Omega.{arith}
 use lib.ListN.{length}
 use borrow.Author.Needs.{needs}
 use Rattle.envelope.proofs.Circling.{envelope-level-lt}
+use Rattle.level_scale.proofs.Picking.{made, lift-lt, used-lt}
+use Rattle.word_sum.proofs.Summing.{are-sources}
 use Rattle.clocking_run.proofs.Running.{Running, running-start, running-on, running-end, next-soon, ran-next, ran-ok, ran-wave, again-soon, word-next}
 use Rattle.clocking_run.proofs.run_words.Statement.{statement}
 use Rattle.clocking_run.proofs.run_words.Tie as tie
 
 abbrev Inv-loop : tie.InvT-loop
-Inv-loop core due table wave out₀ first clocks gates volumes generators₀ accumulator₀ start₀ gate₀ ticks₀ i₀ more₀ out generators accumulator start gate ticks i more =
-    Running core due first table wave out₀ out generators accumulator start gate ticks i more
+Inv-loop core due table wave scale out₀ first clocks gates sources generators₀ accumulator₀ start₀ gate₀ ticks₀ i₀ more₀ out generators accumulator start gate ticks i more =
+    Running core due first table wave scale out₀ out generators accumulator start gate ticks i more
 
 abbrev μ-loop : tie.MeasureT-loop
-μ-loop core due table wave out₀ first clocks gates volumes generators₀ accumulator₀ start₀ gate₀ ticks₀ i₀ more₀ out generators accumulator start gate ticks i more = length out₀ - i
+μ-loop core due table wave scale out₀ first clocks gates sources generators₀ accumulator₀ start₀ gate₀ ticks₀ i₀ more₀ out generators accumulator start gate ticks i more = length out₀ - i
 
 volumes-of-requires : tie.Need-volumes-of-requires Inv-loop μ-loop
 volumes-of-requires c κs = search needs
+
+sources-requires : tie.Need-sources-requires Inv-loop μ-loop
+sources-requires c κs = search (lift-lt, made)
 
 loop-holds : tie.Need-loop-holds Inv-loop μ-loop
 loop-holds c = search running-start
@@ -44,37 +49,43 @@ level-in-requires c κs =
 halves-of-requires : tie.Need-halves-of-requires Inv-loop μ-loop
 halves-of-requires c κs = search needs
 
+used-requires : tie.Need-used-requires Inv-loop μ-loop
+used-requires c κs = search needs
+
 word-requires : tie.Need-word-requires Inv-loop μ-loop
 word-requires c κs =
-    let l = c .before .before .before .before .before .before in
+    let l = c .before .before .before .before .before .before .before in
     let inv = l .before .loop .inv in
-    let ran = ran-next inv (l .loop-test .taken) (c .before .before .before .before .before .run-ticks .ensures) in
-    (rw (c .before .level-in .ensures) (envelope-level-lt (ran-ok inv (l .loop-test .taken) ran .voice .generators .envelope)), inv .table)
+    let ran = ran-next inv (l .loop-test .taken) (c .before .before .before .before .before .before .run-ticks .ensures) in
+    let level = envelope-level-lt (ran-ok inv (l .loop-test .taken) ran .voice .generators .envelope) in
+    let sources = l .before .before .before in
+    (are-sources _ (sources .before .volumes-of .result) (sources .sources .ensures) (made _ (inv .scale)), (rw (c .used .ensures, c .before .before .level-in .ensures) (used-lt _ _ level), inv .table))
 
 mul-out : tie.Need-mul-out Inv-loop μ-loop
 mul-out c = search needs
 
 slice-write-out : tie.Need-slice-write-out Inv-loop μ-loop
-slice-write-out c = let l = c .before .before .before .before .before .before .before in let z = l .before .loop .inv .goes (l .loop-test .taken) in omega (arith, l .before .loop .inv .long)
+slice-write-out c = let l = c .before .before .before .before .before .before .before .before in let z = l .before .loop .inv .goes (l .loop-test .taken) in omega (arith, l .before .loop .inv .long)
 
 add-i : tie.Need-add-i Inv-loop μ-loop
-add-i c = let inv = c .before .before .before .before .before .before .before .before .loop .inv in omega (arith, inv .room, inv .size)
+add-i c = let inv = c .before .before .before .before .before .before .before .before .before .loop .inv in omega (arith, inv .room, inv .size)
 
 goes-on-requires : tie.Need-goes-on-requires Inv-loop μ-loop
-goes-on-requires c κs = let l = c .before .before .before .before .before .before .before in again-soon (l .before .loop .inv) (l .loop-test .taken) _
+goes-on-requires c κs = let l = c .before .before .before .before .before .before .before .before in again-soon (l .before .loop .inv) (l .loop-test .taken) _
 
 loop-less : tie.Need-loop-less Inv-loop μ-loop
-loop-less c = let l = c .before .before .before .before .before .before .before .before in let z = l .before .loop .inv .goes (l .loop-test .taken) in omega arith
+loop-less c = let l = c .before .before .before .before .before .before .before .before .before in let z = l .before .loop .inv .goes (l .loop-test .taken) in omega arith
 
 loop-again : tie.Need-loop-again Inv-loop μ-loop
 loop-again c =
-    let l = c .before .before .before .before .before .before .before .before in
+    let l = c .before .before .before .before .before .before .before .before .before in
     let inv = l .before .loop .inv in
     let t = l .loop-test .taken in
-    let ran = ran-next inv t (c .before .before .before .before .before .before .before .run-ticks .ensures) in
+    let ran = ran-next inv t (c .before .before .before .before .before .before .before .before .run-ticks .ensures) in
     let word = c .before in
     running-on inv t ran (omega (arith, inv .goes t, inv .long))
-    (word-next inv t ran (word .word .ensures) (l .before .before .before .volumes-of .ensures) (word .before .halves-of .ensures) (word .before .before .level-in .ensures)) refl (c .goes-on .ensures)
+    (word-next inv t ran (word .word .ensures) (l .before .before .before .sources .ensures) (l .before .before .before .before .volumes-of .ensures) (word .before .before .halves-of .ensures)
+    (word .before .used .ensures) (word .before .before .before .level-in .ensures)) refl (c .goes-on .ensures)
 
 same-length : tie.Need-same-length Inv-loop μ-loop
 same-length c = c .before .loop .inv .long
@@ -89,6 +100,7 @@ run-words-spec =
     Inv-loop
     μ-loop
     volumes-of-requires
+    sources-requires
     loop-holds
     run-ticks-requires
     cast-ticks
@@ -96,6 +108,7 @@ run-words-spec =
     add-start
     level-in-requires
     halves-of-requires
+    used-requires
     word-requires
     mul-out
     slice-write-out

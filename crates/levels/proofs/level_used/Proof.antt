@@ -5,8 +5,11 @@ use Rattle.levels.specs.Levels.{levelUsed}
 use Rattle.levels.proofs.level_used.Statement.{statement}
 use Rattle.levels.proofs.level_used.Tie as tie
 
-mul-result : tie.Need-mul-result
-mul-result c = search needs
+envelope-used-requires : tie.Need-envelope-used-requires
+envelope-used-requires c κs = search needs
+
+fixed-level-requires : tie.Need-fixed-level-requires
+fixed-level-requires c κs = search needs
 
 returns : tie.Need-returns
 unfolding levelUsed
@@ -17,4 +20,4 @@ unfolding levelUsed
 returns-2 c = search tests
 
 pub level-used-spec : {M : Type 1} → statement M
-level-used-spec = tie.close (tie.spec mul-result returns returns-2)
+level-used-spec = tie.close (tie.spec envelope-used-requires fixed-level-requires returns returns-2)

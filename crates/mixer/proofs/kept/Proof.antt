@@ -36,7 +36,7 @@ sound-requires-3 c κs = search needs
 returns : tie.Need-returns
 returns c =
     let s = c .before .before .before in
-    ap (λ (m : Mixed). m .channels) (parts-mixed _ _ _ _ _ _ _ _ (s .before .before .sound .ensures) (s .before .sound2 .ensures) (s .sound3 .ensures))
+    ap (λ (m : Mixed). m .channels) (parts-mixed _ _ _ _ _ _ _ _ _ (s .before .before .sound .ensures) (s .before .sound2 .ensures) (s .sound3 .ensures))
 
 pub kept-spec : {M : Type 1} → statement M
 kept-spec =

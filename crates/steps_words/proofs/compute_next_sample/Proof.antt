@@ -18,7 +18,7 @@ unplayed-requires c κs = search needs
 returns : tie.Need-returns
 returns c = c .unplayed .ensures ∙ step-out _ _ (c .before .if1 .taken)
 
-sound : (c : tie.Else1) → let a = c .before .args in Playable (chipAt (a .clocks) (a .voice) (a .channels) (a .accumulator) (a .start) (ring (now (a .stamps)) (now (a .registers)) (now (a .values)) (a .head) (a .count)))
+sound : (c : tie.Else1) → let a = c .before .args in Playable (chipAt (a .clocks) (a .variant) (a .voice) (a .channels) (a .accumulator) (a .start) (ring (now (a .stamps)) (now (a .registers)) (now (a .values)) (a .head) (a .count)))
 sound c = c .before .pre (not-false _ (c .if1 .left))
 
 lt-le : {n : ℕ} → n < 4294967296 → n ≤ 4294967295
@@ -46,8 +46,8 @@ word-requires c κs =
     let f = fits _ _ _ (sym (late .before .block-no .ensures) ∙ late .if2 .left) in
     (s .0, (s .1, (one-soon _ _ (f .soon), c .before .level-table .ensures)))
 
-cast-t23 : tie.Need-cast-t23
-cast-t23 c = search needs
+cast-t24 : tie.Need-cast-t24
+cast-t24 c = search needs
 
 returns-3 : tie.Need-returns-3
 returns-3 c =
@@ -66,5 +66,5 @@ compute-next-sample-spec =
     returns-2
     level-table-requires
     word-requires
-    cast-t23
+    cast-t24
     returns-3)

@@ -3,7 +3,7 @@
 use crate::moods::{Act, Act::*, MOODS, weighed};
 use crate::tally::Tally;
 use oracle::random::Random;
-use oracle::refusal::MASTER_MAX;
+use oracle::refusal::{MASTER_MAX, VARIANT_MAX};
 use oracle::script::Bench;
 use oracle::script_cases::Case;
 
@@ -132,10 +132,20 @@ impl Draw<'_> {
             13..=14 => self.slow_clocks(),
             _ => self.any_clocks(),
         };
-        self.call(format!("new {master} {rate}"));
+        self.make_of(master, rate);
         let ticks = self.ticks_a_word();
         if ticks <= MANY_TICKS {
             self.budget = self.budget.max(SOME_WORDS * ticks);
+        }
+    }
+
+    /// Two in three are of variant 0, by one call or the other: demand 2 speaks of these.
+    fn make_of(&mut self, master: u64, rate: u64) {
+        match self.random.below(12) {
+            0..=5 => self.call(format!("new {master} {rate}")),
+            6..=7 => self.call(format!("make {master} {rate} 0")),
+            8..=9 => self.call(format!("make {master} {rate} 1")),
+            _ => self.call(format!("make {master} {rate} 2")),
         }
     }
 
@@ -181,12 +191,32 @@ impl Draw<'_> {
 
     /// It leaves the default chip, of one tick to a word. Half of the scripts go on with several.
     pub fn refused_making(&mut self) {
-        let (master, rate) = self.refused_clocks();
-        self.call(format!("new {master} {rate}"));
+        let line = self.refused_line();
+        self.call(line);
         if self.random.below(2) == 0 {
             let (master, rate) = SEVERAL_TICKS;
-            self.call(format!("new {master} {rate}"));
+            self.make_of(master, rate);
         }
+    }
+
+    /// By the clocks, by the variant, or by both, of which the clocks come first.
+    fn refused_line(&mut self) -> String {
+        let (master, rate) = self.refused_clocks();
+        let variant = self.random.within(0, VARIANT_MAX as u64);
+        let none = self.no_variant();
+        let (fine, its_rate) = self.any_clocks();
+        match self.random.below(8) {
+            0..=3 => format!("new {master} {rate}"),
+            4 => format!("make {master} {rate} {variant}"),
+            5..=6 => format!("make {master} {rate} {none}"),
+            _ => format!("make {fine} {its_rate} {none}"),
+        }
+    }
+
+    /// Among them those that fewer bits would take for 0, 1 or 2.
+    fn no_variant(&mut self) -> u64 {
+        let any = self.random.within(VARIANT_MAX as u64 + 1, 255);
+        self.random.pick(&[3, 3, 4, 5, 6, 128, 130, 255, any, any])
     }
 
     fn refused_clocks(&mut self) -> (u64, u64) {

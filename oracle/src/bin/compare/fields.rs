@@ -77,6 +77,7 @@ impl Draw<'_> {
             }
             Field::Internal => self.random.pick(&[0, held - 1, held, held + 1, quad]),
             Field::Cycles => self.random.pick(&[0, held - 1, held, held + 1, held + (1 << 32), wide]),
+            Field::Variant => self.random.pick(&[0, 1, 2, 3, 255, byte]),
             Field::Accumulator => self.random.pick(&[0, rate - 1, rate, rate + 1, quad % rate, quad]),
             Field::Stamp | Field::Start => self.random.pick(&[held, held + 1, wide, wide >> 24]),
             Field::Stored(register) => {

@@ -4,7 +4,7 @@ use crate::due::{self, KINDS};
 use oracle::call::{self, Call};
 use oracle::capture;
 use oracle::dump::{play, read};
-use oracle::refusal::{ACCEPTED, NO_SUCH_CHANNEL, QUEUE_FULL, QUEUE_MAX};
+use oracle::refusal::{ACCEPTED, NO_SUCH_CHANNEL, QUEUE_FULL, QUEUE_MAX, VARIANT_MAX};
 use oracle::script::Bench;
 use oracle::set::Field;
 use oracle::text::Refused;
@@ -12,6 +12,20 @@ use std::collections::{BTreeMap, BTreeSet};
 
 /// Ticks to a word, by their upper ends.
 const TICKS: [u64; 6] = [1, 10, 100, 700, 26_843, u64::MAX];
+/// Variants above 2 are counted as one.
+const VARIANTS: usize = VARIANT_MAX as usize + 2;
+const CALLS: [&str; VARIANTS] =
+    ["calls at variant 0", "calls at variant 1", "calls at variant 2", "calls at a variant above 2"];
+const WORDS: [&str; VARIANTS] = [
+    "blocks and words at variant 0",
+    "blocks and words at variant 1",
+    "blocks and words at variant 2",
+    "blocks and words at a variant above 2",
+];
+
+fn variant(bench: &Bench) -> usize {
+    (bench.chip.mixer().variant() as usize).min(VARIANTS - 1)
+}
 
 #[derive(Default)]
 pub struct Tally {
@@ -20,6 +34,8 @@ pub struct Tally {
     seen: BTreeMap<(&'static str, u64), BTreeSet<u64>>,
     answers: BTreeMap<u8, u64>,
     captures_refused: BTreeMap<u8, u64>,
+    /// Of makings with a variant above 2, what they answered.
+    no_variant: BTreeMap<u8, u64>,
     ticks: [u64; TICKS.len()],
     counter: u32,
     /// The ring was moved by a `set` since the chip was made or reset.
@@ -54,7 +70,7 @@ impl Tally {
             Call::ReadPort(port) => self.see("ports of `read_port`", port as u64),
             Call::Mute(256.., _) | Call::Muted(256..) | Call::Drum(256.., _) => self.count("channels above 255"),
             Call::Drum(_, Some(sample)) => self.drum(sample),
-            Call::New(..) | Call::Default | Call::Reset => self.moved = false,
+            Call::New(..) | Call::Make(..) | Call::Default | Call::Reset => self.moved = false,
             Call::Set(Field::Head | Field::Count, _) => self.moved = true,
             Call::Word if bench.in_range() => self.block(1, bench),
             Call::Block(length) if bench.in_range() => self.block(length as u64, bench),
@@ -81,6 +97,7 @@ impl Tally {
 
     fn block(&mut self, length: u64, bench: &Bench) {
         self.count("blocks and words");
+        self.count(WORDS[variant(bench)]);
         let (internal, rate, cycles) = bench.chip.clocks();
         if length == 0 {
             return self.count("empty blocks");
@@ -116,7 +133,9 @@ impl Tally {
     /// The number that it answered, and the bench after it.
     pub fn after(&mut self, call: Call, number: u8, bench: &Bench) {
         *self.answers.entry(number).or_default() += 1;
+        self.count(CALLS[variant(bench)]);
         match call {
+            Call::Make(_, _, 3..) => *self.no_variant.entry(number).or_default() += 1,
             Call::Mute(_, false) if number == NO_SUCH_CHANNEL => self.count("`mute N 0` refused"),
             Call::Set(..) if bench.in_range() => self.count("fields set inside"),
             Call::Set(..) => self.count("fields set outside"),
@@ -227,6 +246,9 @@ impl Tally {
         }
         for (number, count) in &self.answers {
             println!("{count:>9} calls that answered {number}");
+        }
+        for (number, count) in &self.no_variant {
+            println!("{count:>9} makings with a variant above 2 that answered {number}");
         }
         for (number, count) in &self.captures_refused {
             println!("{count:>9} captures refused by {number}");

@@ -1,0 +1,5 @@
+pub mod Words
+pub mod Reading
+pub mod Steps
+pub mod Ledgers
+pub mod Alike

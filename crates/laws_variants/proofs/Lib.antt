@@ -1,0 +1,4 @@
+pub mod Levels
+pub mod Refused
+pub mod Variants
+pub mod Table
