@@ -10,8 +10,8 @@ use Rattle.chip.specs.declared.Clocks.{Clocks}
 use Rattle.three_channels.specs.Channels.{allQuiet, channelsReset}
 use Rattle.clocks.specs.Clocks.{clocksNo}
 use Rattle.chip.specs.Clocks.{clocksOf}
-use Rattle.chip.specs.Range.{variantIn}
-use Rattle.refusals.specs.Numbers.{accepted, noSuchVariant}
+use Rattle.variants.specs.Variants.{makingNo}
+use Rattle.refusals.specs.Numbers.{accepted}
 use Rattle.all_registers.specs.Reset.{voiceNew, voiceReset}
 
 -- A new chip: power-on is the reset of a blank.
@@ -31,13 +31,7 @@ defaultVariant = 0
 unfoldable pub fresh : Chip
 fresh = madeOf (clocksOf defaultMaster defaultRate) defaultVariant
 
--- 13, "variant above 2 when a chip is made, checked after 1, 2 and 3".
-unfoldable pub makingNo : ℕ → ℕ → ℕ → ℕ
-makingNo master rate variant =
-    cond (eqb (clocksNo master rate) accepted) (cond (variantIn variant) accepted noSuchVariant)
-    (clocksNo master rate)
-
--- Each of them gives "a fresh default chip of variant 0".
+-- Refused by 1, 2, 3 or 13, a making gives "a fresh default chip of variant 0".
 unfoldable pub withVariant : ℕ → ℕ → ℕ → Answered
 withVariant master rate variant =
     cond (eqb (makingNo master rate variant) accepted) (answered accepted (madeOf (clocksOf master rate) variant))

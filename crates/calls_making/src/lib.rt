@@ -1,6 +1,6 @@
 // New chips and reset. 01, "Power-on and reset"; 02, request 05.
 ghost use mathlib.Core.Path.{_≡_};
-ghost use Rattle.calls_making.specs.Making.{fresh, madeOf, makingNo, resetCall, withClocks, withVariant};
+ghost use Rattle.calls_making.specs.Making.{fresh, madeOf, resetCall, withClocks, withVariant};
 use answers::Answered;
 use chip::Chip;
 use chip::Clocks;
@@ -31,25 +31,12 @@ pub fn with_clocks(master: u32, rate: u32) -> Answered
 pub fn with_variant(master: u32, rate: u32, variant: u8) -> Answered
     ensures { λ r. ⌜ r ≡ withVariant master rate variant ⌝ }
 {
-    let no = making_no(master, rate, variant);
+    let no = variants::making_no(master, rate, variant);
     if no != refusals::ACCEPTED {
         let chip = new();
         return Answered { chip, no };
     }
     answers::accepted(made(chip::clocks_of(master, rate), variant))
-}
-
-fn making_no(master: u32, rate: u32, variant: u8) -> u8
-    ensures { λ r. ⌜ r ≡ makingNo master rate variant ⌝ }
-{
-    let no = clocks::clocks_no(master, rate);
-    if no != refusals::ACCEPTED {
-        return no;
-    }
-    if !chip::variant_in(variant) {
-        return refusals::NO_SUCH_VARIANT;
-    }
-    refusals::ACCEPTED
 }
 
 // Not a new chip: the variant, noise and envelope periods, mutes and last amplitudes stay.

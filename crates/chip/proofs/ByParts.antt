@@ -4,11 +4,12 @@ use mathlib.Core.List.{[], _∷_}
 use mathlib.Core.Path.{_≡_, refl, ap, _∙_}
 use lib.Dec.{leb}
 use Rattle.laws.specs.All.{holds}
+use Rattle.variants.specs.Variants.{variantIn}
 use Rattle.voice_range.specs.Range.{voiceIn}
 use Rattle.queue.specs.Waiting.{queueIn}
 use Rattle.queue.proofs.Range.{bare-same}
 use Rattle.chip.specs.declared.Chip.{Chip}
-use Rattle.chip.specs.Range.{clocksIn, variantIn, coreIn, chipIn, partsIn}
+use Rattle.chip.specs.Range.{clocksIn, coreIn, chipIn, partsIn}
 
 four-and-one : (a b c d e : Bool) → holds (a ∷ b ∷ c ∷ d ∷ e ∷ []) ≡ holds (holds (a ∷ b ∷ c ∷ d ∷ []) ∷ e ∷ [])
 four-and-one false b c d e = refl

@@ -14,8 +14,10 @@ use Rattle.voice_range.proofs.InRange.{voice-passed, voice-passes}
 use Rattle.queue.specs.Waiting.{queueIn, QueueInRange}
 use Rattle.queue.proofs.Range.{queue-passed, queue-passes}
 use Rattle.chip.specs.declared.Chip.{Chip}
-use Rattle.chip.specs.Range.{CoreInRange, clocksIn, variantIn, coreIn, chipIn}
+use Rattle.chip.specs.Range.{CoreInRange, clocksIn, coreIn, chipIn}
 use Rattle.clocks.specs.Clocks.{clocksNo}
+use Rattle.variants.specs.Variants.{variantIn}
+use Rattle.variants.proofs.Makings.{variant-passes}
 use Rattle.clocks.proofs.Accepted.{Accepted, accepts}
 
 -- what 01's last section and 02's request 05 ask of a handed-in record
@@ -60,10 +62,6 @@ passed {c} l e =
       selected = leb-true _ _ selected;
       queue = queue-passed (c .queue) (l .stamps) (l .numbers) (l .values) queue;
     }
-
-pub variant-passes : {variant : ℕ} → variant ≤ 2 → variantIn variant ≡ true
-unfolding variantIn
-variant-passes h = le-leb _ _ h
 
 pub passes : {c : Chip} → InRange c → chipIn c ≡ true
 unfolding chipIn coreIn clocksIn variantIn

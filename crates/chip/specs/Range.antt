@@ -15,6 +15,7 @@ use Rattle.chip.specs.declared.Core.{Core}
 use Rattle.chip.specs.declared.Chip.{Chip}
 use Rattle.clocks.specs.Range.{ClocksRun}
 use Rattle.clocks.specs.Clocks.{clocksNo}
+use Rattle.variants.specs.Variants.{variantIn}
 
 -- accepted clocks and their quotients, accumulator below the rate,
 unfoldable pub clocksIn : Clocks → ℕ → Bool
@@ -27,11 +28,7 @@ clocksIn k accumulator =
     ∷ []
     )
 
--- 02: "a record with a variant above 2 gives 22"; 13 asks the same of a making.
-unfoldable pub variantIn : ℕ → Bool
-variantIn variant = leb variant 2
-
--- stored bytes [...] gate masks to 0x7fff, the selection [...] to 15,
+-- 02: "a record with a variant above 2 gives 22"; stored bytes [...] gate masks to 0x7fff, the selection [...] to 15,
 unfoldable pub coreIn : Core → Bool
 coreIn c = holds (clocksIn (c .clocks) (c .accumulator) ∷ variantIn (c .variant) ∷ voiceIn (c .voice) ∷ leb (c .selected) 15 ∷ [])
 

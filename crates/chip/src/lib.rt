@@ -3,7 +3,7 @@ ghost use mathlib.Core.Path.{_≡_};
 ghost use Rattle.refusals.specs.Numbers.{accepted};
 ghost use Rattle.clocks.specs.Clocks.{clocksNo};
 ghost use Rattle.chip.specs.Clocks.{clocksOf};
-ghost use Rattle.chip.specs.Range.{clocksIn, variantIn, coreIn, chipIn, partsIn};
+ghost use Rattle.chip.specs.Range.{clocksIn, coreIn, chipIn, partsIn};
 use queue::Queue;
 use registers::Voice;
 use three_channels::Channels;
@@ -47,13 +47,6 @@ pub fn clocks_of(master: u32, rate: u32) -> Clocks
     }
 }
 
-// The crate's part, the full-scale part and the 16-step sister part. 02, request 05.
-pub fn variant_in(variant: u8) -> bool
-    ensures { λ r. ⌜ r ≡ variantIn variant ⌝ }
-{
-    variant <= 2
-}
-
 pub fn in_range(chip: Chip) -> bool
     ensures { λ r. ⌜ r ≡ chipIn chip ⌝ }
 {
@@ -82,7 +75,7 @@ pub fn parts_in(
     if !clocks_in(clocks, accumulator) {
         return false;
     }
-    if !variant_in(variant) {
+    if !variants::variant_in(variant) {
         return false;
     }
     if !voice_range::voice_in(voice) {
@@ -103,7 +96,7 @@ fn core_in(core: Core) -> bool
     if !clocks_in(core.clocks, core.accumulator) {
         return false;
     }
-    if !variant_in(core.variant) {
+    if !variants::variant_in(core.variant) {
         return false;
     }
     if !voice_range::voice_in(core.voice) {

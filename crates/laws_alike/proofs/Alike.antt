@@ -9,7 +9,8 @@ use Rattle.chip.specs.Clocks.{clocksOf}
 use Rattle.chip.proofs.InRange.{InRange}
 use Rattle.answers.specs.declared.Answered.{Answered}
 use Rattle.answers.specs.declared.Blocked.{Blocked}
-use Rattle.calls_making.specs.Making.{madeOf, defaultVariant, makingNo, withVariant}
+use Rattle.calls_making.specs.Making.{madeOf, defaultVariant, withVariant}
+use Rattle.variants.specs.Variants.{makingNo}
 use Rattle.calls_registers.specs.Stored.{dumpRegisters, readRegister}
 use Rattle.calls_ports.specs.Ports.{readPort}
 use Rattle.calls_cycles.specs.Cycles.{cpuCycle, pendingWriteCount}

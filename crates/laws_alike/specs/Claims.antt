@@ -10,7 +10,8 @@ use Rattle.channel.specs.declared.Channel.{Channel}
 use Rattle.channel.specs.Channel.{left}
 use Rattle.chip.specs.declared.Chip.{Chip}
 use Rattle.chip_parts.specs.Parts.{withCore}
-use Rattle.calls_making.specs.Making.{defaultVariant, makingNo, withVariant}
+use Rattle.calls_making.specs.Making.{defaultVariant, withVariant}
+use Rattle.variants.specs.Variants.{makingNo}
 use Rattle.calls_registers.specs.Stored.{dumpRegisters, readRegister}
 use Rattle.calls_ports.specs.Ports.{readPort}
 use Rattle.calls_cycles.specs.Cycles.{cpuCycle, pendingWriteCount}

@@ -31,7 +31,8 @@ use Rattle.clocking_word.specs.Word.{drained, ranOf, mixedOf, wordOf}
 use Rattle.clocking_block.specs.Block.{afterWords, ticksOf, wordsOf}
 use Rattle.clocks.specs.Clocks.{clocksNo}
 use Rattle.voice_range.specs.Range.{bytesIn, toneIn, allOrNone, noiseIn, envelopeIn, generatorsIn, gatesIn, voiceIn}
-use Rattle.chip.specs.Range.{clocksIn, variantIn, coreIn, chipIn}
+use Rattle.chip.specs.Range.{clocksIn, coreIn, chipIn}
+use Rattle.variants.specs.Variants.{variantIn}
 use Rattle.calls_making.specs.Making.{madeOf, fresh, withClocks, resetOf, resetCall}
 use Rattle.calls_registers.specs.Stored.{writeRegister, readRegister}
 use Rattle.calls_channels.specs.ChannelCalls.{setChannelMute, setDrumSampleOverride}

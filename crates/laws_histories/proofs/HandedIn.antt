@@ -7,7 +7,8 @@ use native.Mathlib.Omega.{arith}
 use Rattle.laws.specs.All.{All}
 use Rattle.queue.specs.Waiting.{waiting}
 use Rattle.chip.specs.declared.Chip.{Chip}
-use Rattle.chip.proofs.InRange.{InRange, passes, variant-passes}
+use Rattle.chip.proofs.InRange.{InRange, passes}
+use Rattle.variants.proofs.Makings.{variant-passes}
 use Rattle.laws_promises.specs.History.{Call, reset, after, Ledger, emptyLedger, ledger}
 use Rattle.laws_promises.specs.Demand.{N, T, Small, Kept}
 use Rattle.laws_promises.proofs.Numbered.{numbered}

@@ -9,7 +9,8 @@ use Rattle.laws.proofs.Tests.{by-cond}
 use Rattle.chip.specs.declared.Chip.{Chip}
 use Rattle.chip.specs.Range.{chipIn}
 use Rattle.chip.proofs.InRange.{InRange}
-use Rattle.calls_making.specs.Making.{makingNo, withVariant, resetCall}
+use Rattle.calls_making.specs.Making.{withVariant, resetCall}
+use Rattle.variants.specs.Variants.{makingNo}
 use Rattle.calls_registers.specs.Stored.{writeRegister, loadRegisters}
 use Rattle.calls_ports.specs.Ports.{writePort, writePortImmediate}
 use Rattle.calls_cycles.specs.Cycles.{setCpuCycle, syncSampleCycle, flushPendingWrites}

@@ -13,9 +13,10 @@ use Rattle.queue.specs.Waiting.{waiting}
 use Rattle.queue_flush.specs.Applied.{applyAll}
 use Rattle.chip.specs.declared.Chip.{Chip}
 use Rattle.chip.specs.Clocks.{clocksOf}
-use Rattle.chip.specs.Range.{variantIn, chipIn}
+use Rattle.chip.specs.Range.{chipIn}
 use Rattle.clocks.specs.Clocks.{clocksNo}
-use Rattle.calls_making.specs.Making.{defaultVariant, makingNo, withVariant}
+use Rattle.calls_making.specs.Making.{defaultVariant, withVariant}
+use Rattle.variants.specs.Variants.{variantIn, makingNo}
 use Rattle.calls_cycles.specs.Cycles.{pendingWriteCount}
 use Rattle.dump.specs.Checked.{verdictOf}
 use Rattle.calls_words.specs.Blocks.{blockBuffer}

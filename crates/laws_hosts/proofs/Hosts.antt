@@ -11,7 +11,8 @@ use Rattle.channel.specs.declared.Drum.the-variants.{Off, Sample}
 use Rattle.chip.specs.declared.Chip.{Chip}
 use Rattle.chip.specs.declared.Core.{Core}
 use Rattle.answers.specs.declared.Answered.{Answered}
-use Rattle.calls_making.specs.Making.{makingNo, withVariant}
+use Rattle.calls_making.specs.Making.{withVariant}
+use Rattle.variants.specs.Variants.{makingNo}
 use Rattle.c_record.specs.declared.Record.{Record}
 use Rattle.c_record.specs.Record.{chipOf, recordOf, coreOf, recordCore, channelOf, recordChannel, drumOf, recordDrum}
 use Rattle.c_told.specs.Told.{lentBack}

@@ -7,7 +7,8 @@ use lib.ListN.{length}
 use Rattle.refusals.specs.Numbers.{accepted}
 use Rattle.chip.specs.declared.Chip.{Chip}
 use Rattle.answers.specs.Answers.{answered}
-use Rattle.calls_making.specs.Making.{defaultMaster, defaultRate, defaultVariant, fresh, makingNo, resetCall, withClocks, withVariant}
+use Rattle.calls_making.specs.Making.{defaultMaster, defaultRate, defaultVariant, fresh, resetCall, withClocks, withVariant}
+use Rattle.variants.specs.Variants.{makingNo}
 use Rattle.calls_registers.specs.Stored.{dumpRegisters, loadRegisters, readRegister, writeRegister}
 use Rattle.calls_ports.specs.Ports.{readPort, writePort, writePortImmediate}
 use Rattle.calls_cycles.specs.Cycles.{cpuCycle, flushPendingWrites, pendingWriteCount, setCpuCycle, syncSampleCycle}

@@ -27,8 +27,10 @@ use Rattle.clocks.proofs.Accepted.{accepts}
 use Rattle.chip.proofs.InRange.{InRange, core-runs}
 use Rattle.answers.specs.declared.Answered.{Answered}
 use Rattle.answers.specs.declared.Blocked.{Blocked}
-use Rattle.calls_making.specs.Making.{madeOf, defaultMaster, defaultRate, defaultVariant, fresh, makingNo, withClocks, withVariant, resetOf, resetCall}
-use Rattle.calls_making.proofs.Makings.{clocks-accepted, variant-accepted, default-variant}
+use Rattle.calls_making.specs.Making.{madeOf, defaultMaster, defaultRate, defaultVariant, fresh, withClocks, withVariant, resetOf, resetCall}
+use Rattle.variants.specs.Variants.{makingNo}
+use Rattle.variants.proofs.Makings.{clocks-accepted, variant-accepted}
+use Rattle.calls_making.proofs.Makings.{default-variant}
 use Rattle.calls_registers.specs.Stored.{writeRegister, loadRegisters}
 use Rattle.calls_ports.specs.Ports.{bit1Clear, stamped, writePort, writePortImmediate}
 use Rattle.calls_cycles.specs.Cycles.{setCpuCycle, syncSampleCycle, flushPendingWrites}

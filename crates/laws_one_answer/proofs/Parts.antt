@@ -104,6 +104,7 @@ parts =
       clocks-of = λ h x y. by-answer (h .𝓤);
       voice-in = λ h x y. by-answer (h .𝓤);
       variant-in = λ h x y. by-answer (h .𝓤);
+      making-no = λ h x y. by-answer (h .𝓤);
       in-range = λ h x y. by-answer (h .𝓤);
       accepted = λ h x y. by-answer (h .𝓤);
       refused = λ h x y. by-answer (h .𝓤);

@@ -96,7 +96,8 @@ use Rattle.clocks.proofs.master_no as master-no
 use Rattle.clocks.proofs.rate_no as rate-no
 use Rattle.chip.proofs.clocks_of as clocks-of
 use Rattle.voice_range.proofs.voice_in as voice-in
-use Rattle.chip.proofs.variant_in as variant-in
+use Rattle.variants.proofs.variant_in as variant-in
+use Rattle.variants.proofs.making_no as making-no
 use Rattle.chip.proofs.in_range as in-range
 use Rattle.answers.proofs.accepted
 use Rattle.answers.proofs.refused
@@ -206,6 +207,7 @@ pub record Parts : Type 2 where
   pub clocks-of : Settles clocks-of.ended (λ M. clocks-of.clauses)
   pub voice-in : Settles voice-in.ended (λ M. voice-in.clauses)
   pub variant-in : Settles variant-in.ended (λ M. variant-in.clauses)
+  pub making-no : Settles making-no.ended (λ M. making-no.clauses)
   pub in-range : Settles in-range.ended (λ M. in-range.clauses)
   pub accepted : Settles accepted.ended (λ M. accepted.clauses)
   pub refused : Settles refused.ended (λ M. refused.clauses)

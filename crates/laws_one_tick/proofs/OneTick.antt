@@ -8,11 +8,11 @@ use Rattle.laws.specs.All.{All}
 use Rattle.clocks.specs.Clocks.{clocksNo}
 use Rattle.chip.specs.declared.Chip.{Chip}
 use Rattle.chip.specs.declared.Clocks.{Clocks}
-use Rattle.chip.specs.Range.{variantIn}
 use Rattle.chip.proofs.InRange.{InRange, passes}
 use Rattle.chip_parts.specs.Parts.{withTimes}
 use Rattle.answers.specs.Answers.{answered}
-use Rattle.calls_making.specs.Making.{madeOf, defaultMaster, defaultRate, defaultVariant, fresh, makingNo, withVariant}
+use Rattle.calls_making.specs.Making.{madeOf, defaultMaster, defaultRate, defaultVariant, fresh, withVariant}
+use Rattle.variants.specs.Variants.{variantIn, makingNo}
 use Rattle.calls_cycles.specs.Cycles.{syncSampleCycle}
 use Rattle.laws_in_range.proofs.CallsInRange.{fresh-kept, with-variant-kept, sync-sample-cycle-kept}
 use Rattle.laws_promises.specs.History.{Call, answers, after, emptyLedger, ledger}

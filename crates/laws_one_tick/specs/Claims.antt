@@ -7,7 +7,8 @@ use lib.ListN.{length}
 use Rattle.refusals.specs.Numbers.{accepted}
 use Rattle.laws.specs.All.{All}
 use Rattle.chip.specs.declared.Chip.{Chip}
-use Rattle.calls_making.specs.Making.{fresh, makingNo, withVariant}
+use Rattle.calls_making.specs.Making.{fresh, withVariant}
+use Rattle.variants.specs.Variants.{makingNo}
 use Rattle.calls_words.specs.Blocks.{blocked}
 use Rattle.laws_promises.specs.History.{Call, sync-sample-cycle, answers, after, Entry, Ledger, emptyLedger, ledger}
 use Rattle.laws_promises.specs.Demand.{N, T}

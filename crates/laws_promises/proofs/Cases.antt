@@ -28,7 +28,8 @@ use Rattle.clocking_block.specs.Block.{afterWords, ticksOf}
 use Rattle.clocks.specs.Clocks.{clocksNo}
 use Rattle.voice_range.specs.Range.{bytesIn, toneIn, allOrNone, noiseIn, envelopeIn, generatorsIn, gatesIn, voiceIn}
 use Rattle.chip.specs.declared.Chip.{Chip}
-use Rattle.chip.specs.Range.{clocksIn, variantIn, coreIn, chipIn}
+use Rattle.chip.specs.Range.{clocksIn, coreIn, chipIn}
+use Rattle.variants.specs.Variants.{variantIn}
 use Rattle.calls_making.specs.Making.{madeOf, withClocks, resetOf, resetCall}
 use Rattle.calls_ports.specs.Ports.{writePort}
 use Rattle.calls_cycles.specs.Cycles.{setCpuCycle, syncSampleCycle, flushPendingWrites}

@@ -18,8 +18,10 @@ use Rattle.clocks.specs.Clocks.{clocksNo}
 use Rattle.chip.specs.Clocks.{clocksOf}
 use Rattle.chip.proofs.InRange.{InRange, passes}
 use Rattle.answers.specs.declared.Answered.{Answered}
-use Rattle.calls_making.specs.Making.{madeOf, defaultVariant, makingNo, withClocks, withVariant}
-use Rattle.calls_making.proofs.Makings.{clocks-accepted, variant-accepted, clocks-alone, default-variant}
+use Rattle.calls_making.specs.Making.{madeOf, defaultVariant, withClocks, withVariant}
+use Rattle.variants.specs.Variants.{makingNo}
+use Rattle.variants.proofs.Makings.{clocks-accepted, variant-accepted, clocks-alone}
+use Rattle.calls_making.proofs.Makings.{default-variant}
 use Rattle.calls_cycles.specs.Cycles.{pendingWriteCount}
 use Rattle.laws_promises.specs.History.{Call, answers, after, Entry, entries, Ledger, emptyLedger, entered, ledger}
 use Rattle.laws_promises.specs.Demand.{Plain, Served, Holds, FromZero, Demand}

@@ -9,11 +9,11 @@ use Rattle.refusals.specs.Numbers.{accepted}
 use Rattle.laws.proofs.Tests.{on-ne}
 use Rattle.channel.specs.declared.Drum.{Drum}
 use Rattle.chip.specs.declared.Chip.{Chip}
-use Rattle.chip.specs.Range.{variantIn}
 use Rattle.clocks.specs.Clocks.{clocksNo}
 use Rattle.answers.specs.declared.Answered.{Answered}
 use Rattle.answers.specs.Answers.{answered}
-use Rattle.calls_making.specs.Making.{fresh, makingNo, withClocks, withVariant, resetCall, defaultMaster, defaultRate, defaultVariant}
+use Rattle.calls_making.specs.Making.{fresh, withClocks, withVariant, resetCall, defaultMaster, defaultRate, defaultVariant}
+use Rattle.variants.specs.Variants.{variantIn, makingNo}
 use Rattle.calls_making.proofs.Makings.{default-variant}
 use Rattle.calls_registers.specs.Stored.{dumpRegisters, loadRegisters, readRegister, writeRegister}
 use Rattle.calls_ports.specs.Ports.{readPort, writePort, writePortImmediate}

@@ -17,7 +17,8 @@ use Rattle.chip.specs.declared.Chip.{Chip}
 use Rattle.calls_cycles.specs.Cycles.{pendingWriteCount}
 use Rattle.envelope.specs.Range.{PositionInRange}
 use Rattle.laws.specs.All.{All}
-use Rattle.calls_making.specs.Making.{makingNo, withVariant}
+use Rattle.calls_making.specs.Making.{withVariant}
+use Rattle.variants.specs.Variants.{makingNo}
 use Rattle.noise.specs.Course.{Agrees}
 use Rattle.noise.specs.declared.Noise.{Noise}
 use Rattle.queue.specs.Waiting.{waiting}

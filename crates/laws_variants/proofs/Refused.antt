@@ -9,7 +9,8 @@ use Rattle.refusals.specs.Numbers.{outOfRange}
 use Rattle.laws.specs.All.{holds}
 use Rattle.voice_range.specs.Range.{voiceIn}
 use Rattle.chip.specs.declared.Chip.{Chip}
-use Rattle.chip.specs.Range.{clocksIn, variantIn, coreIn, chipIn}
+use Rattle.chip.specs.Range.{clocksIn, coreIn, chipIn}
+use Rattle.variants.specs.Variants.{variantIn}
 use Rattle.answers.specs.Answers.{answered}
 use Rattle.answers.specs.declared.Answered.{Answered}
 use Rattle.calls_making.specs.Making.{resetCall}

@@ -23,8 +23,9 @@ use Rattle.clocking_word.specs.Word.{drained, ranOf, mixedOf, wordOf}
 use Rattle.clocking_block.specs.Block.{afterWords, ticksOf, wordsOf}
 use Rattle.clocks.specs.Clocks.{clocksNo}
 use Rattle.voice_range.specs.Range.{bytesIn, toneIn, allOrNone, noiseIn, envelopeIn, generatorsIn, gatesIn, voiceIn}
-use Rattle.chip.specs.Range.{clocksIn, variantIn, coreIn, chipIn}
-use Rattle.calls_making.specs.Making.{madeOf, fresh, makingNo, withVariant, resetOf, resetCall}
+use Rattle.chip.specs.Range.{clocksIn, coreIn, chipIn}
+use Rattle.calls_making.specs.Making.{madeOf, fresh, withVariant, resetOf, resetCall}
+use Rattle.variants.specs.Variants.{variantIn, makingNo}
 use Rattle.calls_registers.specs.Stored.{loadRegisters, readRegister}
 use Rattle.calls_words.specs.Blocks.{blocked, blockBuffer, sampled}
 use Rattle.block_limits.specs.Limits.{blockNumber}

@@ -6,9 +6,9 @@ use Rattle.refusals.specs.Numbers.{accepted, noSuchVariant}
 use Rattle.levels.proofs.Laws.{variant-0, used-lt}
 use Rattle.clocks.specs.Clocks.{clocksNo}
 use Rattle.chip.specs.Clocks.{clocksOf}
-use Rattle.chip.specs.Range.{variantIn}
 use Rattle.answers.specs.Answers.{answered}
-use Rattle.calls_making.specs.Making.{madeOf, fresh, makingNo, withVariant}
+use Rattle.calls_making.specs.Making.{madeOf, fresh, withVariant}
+use Rattle.variants.specs.Variants.{variantIn, makingNo}
 use Rattle.calls_making.proofs.Makings.{default-variant}
 use Rattle.laws_variants.specs.Claims.{Variants}
 use Rattle.laws_variants.proofs.Levels.{lifted, silent, as-it-is, cleared, fixed, above}

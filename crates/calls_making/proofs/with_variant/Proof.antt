@@ -5,7 +5,7 @@ use Rattle.laws.proofs.Tests.{on-eq, on-ne}
 use Rattle.chip.specs.declared.Chip.{Chip}
 use Rattle.answers.specs.Answers.{answered}
 use Rattle.calls_making.specs.Making.{withVariant}
-use Rattle.calls_making.proofs.Makings.{clocks-accepted}
+use Rattle.variants.proofs.Makings.{clocks-accepted}
 use borrow.Author.Needs.{needs}
 use Rattle.calls_making.proofs.with_variant.Statement.{statement}
 use Rattle.calls_making.proofs.with_variant.Tie as tie
