@@ -10,6 +10,6 @@ use Rattle.answers.specs.Answers.{answered}
 use Rattle.calls_making.specs.Making.{madeOf, defaultVariant, fresh, withClocks, withVariant}
 
 pub default-variant : (master rate : ℕ) → withClocks master rate ≡ withVariant master rate defaultVariant
-unfolding withClocks withVariant
+unfolding withClocks withVariant fresh
 default-variant master rate =
     ap (λ (n : ℕ). cond (eqb n accepted) (answered accepted (madeOf (clocksOf master rate) defaultVariant)) (answered n fresh)) (sym (clocks-alone master rate))

@@ -9,19 +9,14 @@ use Rattle.laws.proofs.Tests.{by-cond}
 use Rattle.chip.specs.declared.Chip.{Chip}
 use Rattle.chip.specs.Range.{chipIn}
 use Rattle.chip.proofs.InRange.{InRange}
-use Rattle.calls_making.specs.Making.{withVariant, resetCall}
+use Rattle.calls_making.specs.Making.{withVariant}
 use Rattle.variants.specs.Variants.{makingNo}
-use Rattle.calls_registers.specs.Stored.{writeRegister, loadRegisters}
-use Rattle.calls_ports.specs.Ports.{writePort, writePortImmediate}
-use Rattle.calls_cycles.specs.Cycles.{setCpuCycle, syncSampleCycle, flushPendingWrites}
-use Rattle.calls_effects.specs.Effects.{setTimerIrqState, triggerEnvelope}
-use Rattle.calls_channels.specs.ChannelCalls.{setChannelMute, setDrumSampleOverride}
-use Rattle.calls_words.specs.Blocks.{blocked, sampled}
+use Rattle.answers.specs.declared.Answered.{Answered}
 use Rattle.laws_in_range.proofs.CallsInRange.{with-variant-kept}
 use Rattle.dump_frames.specs.Frame.{frameLoaded, framePlayed}
-use Rattle.laws_promises.specs.History
-use Rattle.laws_promises.specs.History.{Call, answers, after, emptyLedger, ledger}
+use Rattle.laws_promises.specs.History.{after, emptyLedger, ledger}
 use Rattle.laws_promises.specs.Demand.{Holds}
+use Rattle.laws_promises.proofs.OutOfRange.{out-of-range}
 use Rattle.laws_promises.proofs.Demand.{demand-3}
 use Rattle.laws_histories.specs.Histories
 use Rattle.laws_histories.specs.Histories.{Play, afterPlays, allCalls}
@@ -31,31 +26,6 @@ use Rattle.laws_histories.proofs.Frames.{frame-is-calls}
 use Rattle.laws_histories.proofs.Since.{calls-stay}
 
 -- a record out of range stays as it is, whatever is called or played on it
-call-stays : (x : Call) (c : Chip) → chipIn c ≡ false → answers x c .chip ≡ c
-unfolding answers resetCall writeRegister loadRegisters writePort writePortImmediate setCpuCycle syncSampleCycle flushPendingWrites setTimerIrqState triggerEnvelope setChannelMute setDrumSampleOverride sampled blocked
-call-stays History.reset c e = rw e
-call-stays (History.write-register register value) c e = rw e
-call-stays (History.load-registers bytes) c e = rw e
-call-stays (History.write-port port value) c e = rw e
-call-stays (History.write-port-immediate port value) c e = rw e
-call-stays (History.set-cpu-cycle cycle) c e = rw e
-call-stays (History.sync-sample-cycle cycle) c e = rw e
-call-stays History.flush-pending-writes c e = rw e
-call-stays (History.set-timer-irq-state on) c e = rw e
-call-stays (History.inside-timer-irq inside) c e = rw e
-call-stays History.trigger-envelope c e = rw e
-call-stays (History.set-channel-mute channel muted) c e = rw e
-call-stays (History.set-drum-sample-override channel drum) c e = rw e
-call-stays History.compute-next-sample c e = rw e
-call-stays (History.block out) c e = rw e
-call-stays (History.read-register register) c e = refl
-call-stays History.dump-registers c e = refl
-call-stays (History.read-port port) c e = refl
-call-stays History.cpu-cycle c e = refl
-call-stays History.pending-write-count c e = refl
-call-stays (History.is-channel-muted channel) c e = refl
-call-stays History.get-channel-outputs c e = refl
-
 load-stays : (value : List ℕ) (c : Chip) → chipIn c ≡ false → frameLoaded value c .chip ≡ c
 unfolding frameLoaded
 load-stays value c e = rw e
@@ -66,7 +36,7 @@ frame-stays value n c e = rw e
 
 play-stays : (p : Play) (c : Chip) → chipIn c ≡ false → Histories.leaves p c ≡ c
 unfolding Histories.leaves
-play-stays (Histories.call x) c e = call-stays x c e
+play-stays (Histories.call x) c e = ap (λ (a : Answered). a .chip) (out-of-range x c e)
 play-stays (Histories.load-frame value) c e = load-stays value c e
 play-stays (Histories.play-frame value out) c e = frame-stays value (length out) c e
 

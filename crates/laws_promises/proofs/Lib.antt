@@ -4,6 +4,7 @@ pub mod Sounds
 pub mod Words
 pub mod Deeds
 pub mod Numbered
+pub mod OutOfRange
 pub mod DemandKept
 pub mod Circling
 pub mod Demand

@@ -13,15 +13,8 @@ use Rattle.chip.specs.Range.{clocksIn, coreIn, chipIn}
 use Rattle.variants.specs.Variants.{variantIn}
 use Rattle.answers.specs.Answers.{answered}
 use Rattle.answers.specs.declared.Answered.{Answered}
-use Rattle.calls_making.specs.Making.{resetCall}
-use Rattle.calls_registers.specs.Stored.{dumpRegisters, loadRegisters, readRegister, writeRegister}
-use Rattle.calls_ports.specs.Ports.{readPort, writePort, writePortImmediate}
-use Rattle.calls_cycles.specs.Cycles.{cpuCycle, flushPendingWrites, pendingWriteCount, setCpuCycle, syncSampleCycle}
-use Rattle.calls_effects.specs.Effects.{setTimerIrqState, triggerEnvelope}
-use Rattle.calls_channels.specs.ChannelCalls.{getChannelOutputs, isChannelMuted, setChannelMute, setDrumSampleOverride}
-use Rattle.calls_words.specs.Blocks.{blocked, sampled}
-use Rattle.laws_promises.specs.History
 use Rattle.laws_promises.specs.History.{Call, answers, after}
+use Rattle.laws_promises.proofs.OutOfRange.{out-of-range}
 
 -- the test fails at the variant, whatever the clocks are
 second-fails : (a b : Bool) (l : List Bool) → b ≡ false → holds (a ∷ b ∷ l) ≡ false
@@ -38,33 +31,8 @@ not-in : (c : Chip) → 2 < c .core .variant → chipIn c ≡ false
 unfolding chipIn
 not-in c h = rw (core-out c h)
 
-refused : (x : Call) (c : Chip) → chipIn c ≡ false → answers x c ≡ answered outOfRange c
-unfolding answers resetCall writeRegister loadRegisters writePort writePortImmediate setCpuCycle syncSampleCycle flushPendingWrites setTimerIrqState triggerEnvelope setChannelMute setDrumSampleOverride sampled blocked readRegister dumpRegisters readPort cpuCycle pendingWriteCount isChannelMuted getChannelOutputs
-refused History.reset c e = rw e
-refused (History.write-register register value) c e = rw e
-refused (History.load-registers bytes) c e = rw e
-refused (History.write-port port value) c e = rw e
-refused (History.write-port-immediate port value) c e = rw e
-refused (History.set-cpu-cycle cycle) c e = rw e
-refused (History.sync-sample-cycle cycle) c e = rw e
-refused History.flush-pending-writes c e = rw e
-refused (History.set-timer-irq-state on) c e = rw e
-refused (History.inside-timer-irq inside) c e = rw e
-refused History.trigger-envelope c e = rw e
-refused (History.set-channel-mute channel muted) c e = rw e
-refused (History.set-drum-sample-override channel drum) c e = rw e
-refused History.compute-next-sample c e = rw e
-refused (History.block out) c e = rw e
-refused (History.read-register register) c e = rw e
-refused History.dump-registers c e = rw e
-refused (History.read-port port) c e = rw e
-refused History.cpu-cycle c e = rw e
-refused History.pending-write-count c e = rw e
-refused (History.is-channel-muted channel) c e = rw e
-refused History.get-channel-outputs c e = rw e
-
 pub gives-22 : (x : Call) (c : Chip) → 2 < c .core .variant → answers x c ≡ answered outOfRange c
-gives-22 x c h = refused x c (not-in c h)
+gives-22 x c h = out-of-range x c (not-in c h)
 
 pub stays : (calls : List Call) (c : Chip) → 2 < c .core .variant → after calls c ≡ c
 unfolding after
