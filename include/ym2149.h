@@ -171,16 +171,35 @@ struct ym2149_outputs {
     float a, b, c;
 };
 
+/* Of one register write: whether the stored byte changed and whether the envelope restarted. Refused: no and no. */
+struct ym2149_wrote {
+    uint8_t no;
+    bool changed;   /* the byte as it is stored, masked, is another than just before */
+    bool restarted; /* the write is to R13, the same byte too */
+};
+
+/* Of the writes that a call applied: how many changed a byte and how many restarted the envelope. Refused: 0 and 0. */
+struct ym2149_counts {
+    uint8_t no;
+    uint32_t changed;
+    uint32_t restarted;
+};
+
+/* `changed` and `restarted` count the writes that were due, as above. */
 struct ym2149_sample {
     uint8_t no;
     uint16_t word;
     uint64_t ticks;
+    uint32_t changed;
+    uint32_t restarted;
 };
 
 struct ym2149_played {
     uint8_t no;
     size_t words;
     uint64_t ticks;
+    uint32_t changed;
+    uint32_t restarted;
 };
 
 /* ---- The layout that the library was compiled with: every size, and every field that lies behind padding. */
@@ -207,9 +226,11 @@ static_assert(sizeof(struct ym2149_bytes) == 17 && sizeof(struct ym2149_flag) ==
 static_assert(sizeof(struct ym2149_cycle) == 16 && offsetof(struct ym2149_cycle, cycle) == 8, "struct ym2149_cycle");
 static_assert(sizeof(struct ym2149_count) == 16 && offsetof(struct ym2149_count, count) == 8, "struct ym2149_count");
 static_assert(sizeof(struct ym2149_outputs) == 16 && offsetof(struct ym2149_outputs, a) == 4, "struct ym2149_outputs");
-static_assert(sizeof(struct ym2149_sample) == 16 && offsetof(struct ym2149_sample, word) == 2, "struct ym2149_sample");
+static_assert(sizeof(struct ym2149_wrote) == 3, "struct ym2149_wrote");
+static_assert(sizeof(struct ym2149_counts) == 12 && offsetof(struct ym2149_counts, changed) == 4, "struct ym2149_counts");
+static_assert(sizeof(struct ym2149_sample) == 24 && offsetof(struct ym2149_sample, word) == 2, "struct ym2149_sample");
 static_assert(offsetof(struct ym2149_sample, ticks) == 8, "struct ym2149_sample");
-static_assert(sizeof(struct ym2149_played) == 24 && offsetof(struct ym2149_played, words) == 8, "struct ym2149_played");
+static_assert(sizeof(struct ym2149_played) == 32 && offsetof(struct ym2149_played, words) == 8, "struct ym2149_played");
 
 /* ---- Making. These write the record and do not look at what was there. */
 
@@ -226,7 +247,8 @@ uint8_t ym2149_with_clocks(struct ym2149 *chip, uint32_t master, uint32_t rate);
  * changes it. Answers 1, 2, 3 as above, and after them 13: variant above 2. Refused, the record is a fresh default chip, of variant 0. */
 uint8_t ym2149_with_variant(struct ym2149 *chip, uint32_t master, uint32_t rate, uint8_t variant);
 
-/* ---- Calls that change the chip. Each answers 0, or 22 and then nothing changes; other numbers are said. */
+/* ---- Calls that change the chip. Each answers 0, or 22 and then nothing changes; other numbers are said. A call that applies writes also
+ * answers what these changed. */
 
 /* Reset sets tone counters and periods to 0, clears pending flips, sets noise counter 0, register 1, output 0, half-tick off; envelope
  * counter, position and shape offset to 0; drums off, channel outputs 0.0; registers 0 and then 0x3F to R7; selection, accumulator, stamp,
@@ -236,18 +258,18 @@ uint8_t ym2149_reset(struct ym2149 *chip);
 
 /* Stores the byte, masked, at once: 0..5 set that channel's 12-bit period, and mark a pending flip if the period is now at most 1 and the IRQ
  * flag is on; 6 sets the noise period, 7 the gates, 11 and 12 the envelope period; 13 picks the shape and restarts at -64 with counter 0,
- * even for the same byte; 8..10 only store. Writes to registers 14 and up answer 0 and change nothing. */
-uint8_t ym2149_write_register(struct ym2149 *chip, uint8_t number, uint8_t value);
+ * even for the same byte; 8..10 only store. Writes to registers 14 and up answer 0, no and no, and change nothing. */
+struct ym2149_wrote ym2149_write_register(struct ym2149 *chip, uint8_t number, uint8_t value);
 
-/* Writes bytes 0 to 13 in order, at once, an R13 of ff too: only the dump player leaves that out. */
-uint8_t ym2149_load_registers(struct ym2149 *chip, struct ym2149_registers registers);
+/* Writes bytes 0 to 13 in order, at once, an R13 of ff too: only the dump player leaves that out. `restarted` is 1. */
+struct ym2149_counts ym2149_load_registers(struct ym2149 *chip, struct ym2149_registers registers);
 
 /* Port bit 1 clear selects (value modulo 16) at once; set, it queues the write with the current stamp and selected number, 14 and 15
  * included. Answers 4, and nothing changes: a data write while 256 writes wait. */
 uint8_t ym2149_write_port(struct ym2149 *chip, uint8_t port, uint8_t value);
 
-/* The same, but a data write is applied at once: it skips the queue. */
-uint8_t ym2149_write_port_immediate(struct ym2149 *chip, uint8_t port, uint8_t value);
+/* The same, but a data write is applied at once: it skips the queue. Selecting answers no and no. */
+struct ym2149_wrote ym2149_write_port_immediate(struct ym2149 *chip, uint8_t port, uint8_t value);
 
 /* Setting the CPU cycle sets the stamp of later writes. */
 uint8_t ym2149_set_cpu_cycle(struct ym2149 *chip, uint64_t cycle);
@@ -255,8 +277,8 @@ uint8_t ym2149_set_cpu_cycle(struct ym2149 *chip, uint64_t cycle);
 /* Syncing sets the stamp and the next word's start. */
 uint8_t ym2149_sync_sample_cycle(struct ym2149 *chip, uint64_t cycle);
 
-/* A flush applies all waiting writes in order. */
-uint8_t ym2149_flush_pending_writes(struct ym2149 *chip);
+/* A flush applies all waiting writes in order. Each is held to the byte stored just before it: of 5, 6, 5 to R8 at 5 two change it. */
+struct ym2149_counts ym2149_flush_pending_writes(struct ym2149 *chip);
 
 /* Sets the IRQ flag. Setting it off flips each pending channel once, clears its counter, and unmarks it. */
 uint8_t ym2149_set_timer_irq_state(struct ym2149 *chip, bool on);
@@ -299,14 +321,15 @@ struct ym2149_outputs ym2149_get_channel_outputs(const struct ym2149 *chip);
 
 /* ---- Words. */
 
-/* One word, and the ticks run. Its end is start plus (4 * master / rate, rounded down), and that end is the next word's start. Waiting writes
- * are applied from the front while their stamp is at most that end; the first later one stops it. Then ticks run, their gates OR-ed, until
- * the accumulator reaches the internal clock. The word is the sum of three channel outputs. One word is a block of one: answers 6 where its
- * end is past cycle 2^64 - 1, and then nothing changes, word 0, 0 ticks. */
+/* One word, the ticks run, and what the due writes changed. Its end is start plus (4 * master / rate, rounded down), and that end is the
+ * next word's start. Waiting writes are applied from the front while their stamp is at most that end; the first later one stops it. Then
+ * ticks run, their gates OR-ed, until the accumulator reaches the internal clock. The word is the sum of three channel outputs. One word is
+ * a block of one: answers 6 where its end is past cycle 2^64 - 1, and then nothing changes, word 0, 0 ticks, 0 and 0 of writes. */
 struct ym2149_sample ym2149_compute_next_sample(struct ym2149 *chip);
 
-/* Fills `out` with `words` words, and answers how many, and the ticks run. An empty block is accepted and changes nothing. Answers 5: longer
- * than 65,536 words. 6: the last word would end past cycle 2^64 - 1. Refused, chip and buffer are as they were: 0 words, 0 ticks. */
+/* Fills `out` with `words` words, and answers how many, the ticks run, and what the due writes of all its words changed. An empty block is
+ * accepted and changes nothing. Answers 5: longer than 65,536 words. 6: the last word would end past cycle 2^64 - 1. Refused, chip and
+ * buffer are as they were: 0 words, 0 ticks, 0 and 0 of writes. */
 struct ym2149_played ym2149_block(struct ym2149 *chip, uint16_t *out, size_t words);
 
 #ifdef __cplusplus

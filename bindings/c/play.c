@@ -18,7 +18,7 @@ static int play(struct ym2149 *chip, uint32_t master, uint32_t rate)
 {
     uint8_t no = ym2149_with_clocks(chip, master, rate);
     if (no == YM2149_ACCEPTED)
-        no = ym2149_load_registers(chip, dump);
+        no = ym2149_load_registers(chip, dump).no;
     if (no != YM2149_ACCEPTED)
         return no;
     uint16_t out[WORDS];
@@ -46,7 +46,8 @@ static bool block_refused(struct ym2149 *chip, size_t words, uint8_t no)
     memcpy(out_before, out, sizeof out);
     memcpy(&before, chip, sizeof before);
     struct ym2149_played played = ym2149_block(chip, out, words);
-    return played.no == no && played.words == 0 && played.ticks == 0 && same(chip, &before) && memcmp(out, out_before, sizeof out) == 0;
+    bool answered = played.no == no && played.words == 0 && played.ticks == 0 && played.changed == 0 && played.restarted == 0;
+    return answered && same(chip, &before) && memcmp(out, out_before, sizeof out) == 0;
 }
 
 /* A mute of channel 3, a block that is too long, and calls on a record that the host has put out of range. */
@@ -58,7 +59,8 @@ static bool refusals_change_nothing(struct ym2149 *chip)
     kept = block_refused(chip, TOO_LONG, YM2149_BLOCK_TOO_LONG) && kept;
     chip->core.selected = 16;
     before.core.selected = 16;
-    kept = ym2149_write_register(chip, 8, 15) == YM2149_OUT_OF_RANGE && same(chip, &before) && kept;
+    struct ym2149_wrote wrote = ym2149_write_register(chip, 8, 15);
+    kept = wrote.no == YM2149_OUT_OF_RANGE && !wrote.changed && !wrote.restarted && same(chip, &before) && kept;
     return block_refused(chip, WORDS, YM2149_OUT_OF_RANGE) && kept;
 }
 

@@ -101,12 +101,12 @@ fn full_ring(lent: u8) -> String {
     script += "waiting 56\n# answer: 0 1824 8 8\nwaiting 255\n# answer: 0 8192 8 15\n";
     for turn in 1..=24 {
         script += "block 16\n";
-        script += "# answer: 0 16 16 100 121 151 193 252 337 455 624 861 1198 1673 2346 3297 4642 6544 9234\n";
+        script += "# answer: 0 16 16 16 0 100 121 151 193 252 337 455 624 861 1198 1673 2346 3297 4642 6544 9234\n";
         let next = FULL + 16 * turn;
         script.extend((next - 16..next).map(volume));
         writeln!(script, "waiting 255\n# answer: 0 {} 8 15", CYCLES * next).unwrap();
     }
-    script + "flush\nread 8\n# answer: 0 15\nblock 2\n# answer: 0 2 2 9234 9234\n"
+    script + "flush\nread 8\n# answer: 0 15\nblock 2\n# answer: 0 2 2 0 0 9234 9234\n"
 }
 
 /// A flush moves the front and leaves the slots; a reset leaves none.
@@ -126,9 +126,9 @@ fn one_register_out_of_range(front: u64) -> String {
         let (lent, register, last) = (place % 2, 16 << (place / 2 % 4), place + 1);
         write!(script, "lent {lent}\nset count {last}\nset waiting_register {register}\n").unwrap();
         write!(script, "pending\n# answer: 22 0\nset count {place}\npending\n# answer: 0 {place}\n").unwrap();
-        write!(script, "set count {FULL}\nword\n# answer: 22 0 0\nblock 2\n# answer: 22 0 0\n").unwrap();
+        write!(script, "set count {FULL}\nword\n# answer: 22 0 0 0 0\nblock 2\n# answer: 22 0 0 0 0\n").unwrap();
         write!(script, "set count {last}\nset waiting_register 15\n").unwrap();
         write!(script, "set count {FULL}\npending\n# answer: 0 {FULL}\n").unwrap();
     }
-    script + "word\n# answer: 0 1 1 75\npending\n# answer: 0 0\n"
+    script + "word\n# answer: 0 1 1 0 0 75\npending\n# answer: 0 0\n"
 }

@@ -17,6 +17,7 @@ pub mod capture;
 pub mod capture_cases;
 pub mod due_cases;
 pub mod dump;
+pub mod effect_cases;
 pub mod lines;
 pub mod random;
 pub mod range;

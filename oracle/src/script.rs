@@ -2,7 +2,7 @@
 //! README.md has the form. Answers come from the crate; a refused call never reaches it.
 
 use crate::call::Call;
-use crate::chip::Ym2149;
+use crate::chip::{Effects, Ym2149};
 use crate::generators::ToneGenerator;
 use crate::lines;
 use crate::mixer::ChannelState;
@@ -80,17 +80,17 @@ impl Bench {
         let chip = &mut self.chip;
         match call {
             Call::Reset => done(chip.reset()),
-            Call::Write(register, value) => done(chip.write_register(register, value)),
+            Call::Write(register, value) => self.reported(|chip| chip.write_register(register, value)),
             Call::Read(register) => value(chip.read_register(register)),
-            Call::Load(bytes) => done(chip.load_registers(&bytes)),
+            Call::Load(bytes) => self.reported(|chip| chip.load_registers(&bytes)),
             Call::Dump => value(hex(&chip.dump_registers())),
             Call::Port(port, value) => self.write_port(port, value),
-            Call::PortNow(port, value) => done(chip.write_port_immediate(port, value)),
+            Call::PortNow(port, value) => self.reported(|chip| chip.write_port_immediate(port, value)),
             Call::ReadPort(port) => value(chip.read_port(port)),
             Call::Cycle(cycle) => done(chip.set_cpu_cycle(cycle)),
             Call::GetCycle => value(chip.cpu_cycle()),
             Call::Sync(cycle) => done(chip.sync_sample_cycle(cycle)),
-            Call::Flush => done(chip.flush_pending_writes()),
+            Call::Flush => self.reported(|chip| chip.flush_pending_writes()),
             Call::Pending => value(chip.pending_write_count()),
             Call::Irq(on) => done(chip.set_timer_irq_state(on)),
             Call::InsideIrq(on) => done(chip.inside_timer_irq(on)),
@@ -180,14 +180,24 @@ impl Bench {
         let (_, _, cycles) = self.chip.clocks();
         let refusal = refusal::of_block(length, self.chip.start(), cycles);
         if refusal != ACCEPTED {
-            return rendered(refusal, 0, &[]);
+            return rendered(refusal, 0, Effects::default(), &[]);
         }
+        self.chip.take_effects();
         let before = self.chip.ticks();
         let words: Vec<u16> = (0..length).map(|_| self.chip.compute_next_sample()).collect();
         let ticks = self.chip.ticks() - before;
+        let effects = self.chip.take_effects();
         self.words += length as u64;
         self.ticks += ticks;
-        rendered(refusal, ticks, &words)
+        rendered(refusal, ticks, effects, &words)
+    }
+
+    /// A call that says what its writes did, counted from 0 on. 02, request 03.
+    fn reported(&mut self, call: impl FnOnce(&mut Ym2149)) -> String {
+        self.chip.take_effects();
+        call(&mut self.chip);
+        let Effects { changed, restarted } = self.chip.take_effects();
+        format!("{ACCEPTED} {changed} {restarted}")
     }
 
     fn state(&self, out: &mut String) {
@@ -244,15 +254,18 @@ fn out_of_range(call: Call) -> String {
         Call::Read(_) | Call::ReadPort(_) | Call::GetCycle | Call::Pending | Call::Muted(_) => " 0",
         Call::Dump => " 00000000000000000000000000000000",
         Call::Outputs => " 00000000 00000000 00000000",
-        Call::Word | Call::Block(_) => " 0 0",
+        // 02, request 03: "A refused call reports 0 and 0."
+        Call::Write(..) | Call::PortNow(..) | Call::Load(_) | Call::Flush => " 0 0",
+        Call::Word | Call::Block(_) => " 0 0 0 0",
         _ => "",
     };
     format!("{BAD_RECORD}{others}")
 }
 
 /// What `word` and `block` answer.
-pub fn rendered(number: u8, ticks: u64, words: &[u16]) -> String {
-    let mut answer = format!("{number} {} {ticks}", words.len());
+pub fn rendered(number: u8, ticks: u64, effects: Effects, words: &[u16]) -> String {
+    let Effects { changed, restarted } = effects;
+    let mut answer = format!("{number} {} {ticks} {changed} {restarted}", words.len());
     if words.len() <= WORDS_SHOWN {
         for word in words {
             write!(answer, " {word}").unwrap();

@@ -1,6 +1,6 @@
 //! Scripts by hand: what they are made of, and all of them. `compare` runs them on ours.
 
-use crate::{due_cases, variant_cases, wave_cases};
+use crate::{due_cases, effect_cases, variant_cases, wave_cases};
 
 pub struct Case {
     pub name: String,
@@ -8,7 +8,7 @@ pub struct Case {
 }
 
 pub fn all() -> Vec<Case> {
-    [wave_cases::all(), due_cases::all(), variant_cases::all()].into_iter().flatten().collect()
+    [wave_cases::all(), due_cases::all(), variant_cases::all(), effect_cases::all()].into_iter().flatten().collect()
 }
 
 pub fn case(name: impl Into<String>, script: String) -> Case {

@@ -70,11 +70,11 @@ fn every_making() -> String {
 /// Each call, and what else it answers where it is refused.
 #[rustfmt::skip]
 const CALLS: [(&str, &str); 27] = [
-    ("write 8 15", ""), ("read 8", " 0"), ("load 00112233445566778899aabbccddeeff", ""), ("port 0 3", ""), ("port 2 9", ""),
-    ("port_now 0 8", ""), ("port_now 2 9", ""), ("read_port 0", " 0"), ("cycle 70", ""), ("get_cycle", " 0"), ("sync 5", ""),
-    ("pending", " 0"), ("flush", ""), ("irq 1", ""), ("inside_irq 0", ""), ("trigger", ""), ("mute 1 1", ""), ("muted 1", " 0"),
-    ("mute 3 0", ""), ("drum 2 40000000", ""), ("drum 1 off", ""), ("outputs", " 00000000 00000000 00000000"), ("word", " 0 0"),
-    ("block 5", " 0 0"), ("block 65537", " 0 0"), ("dump", " 00000000000000000000000000000000"), ("reset", ""),
+    ("write 8 15", " 0 0"), ("read 8", " 0"), ("load 00112233445566778899aabbccddeeff", " 0 0"), ("port 0 3", ""), ("port 2 9", ""),
+    ("port_now 0 8", " 0 0"), ("port_now 2 9", " 0 0"), ("read_port 0", " 0"), ("cycle 70", ""), ("get_cycle", " 0"), ("sync 5", ""),
+    ("pending", " 0"), ("flush", " 0 0"), ("irq 1", ""), ("inside_irq 0", ""), ("trigger", ""), ("mute 1 1", ""), ("muted 1", " 0"),
+    ("mute 3 0", ""), ("drum 2 40000000", ""), ("drum 1 off", ""), ("outputs", " 00000000 00000000 00000000"), ("word", " 0 0 0 0"),
+    ("block 5", " 0 0 0 0"), ("block 65537", " 0 0 0 0"), ("dump", " 00000000000000000000000000000000"), ("reset", ""),
 ];
 
 /// Every call but the makings, on records of variants in range and beyond.

@@ -90,7 +90,8 @@ fn range_of_01() {
                     "read" | "read_port" | "get_cycle" | "pending" | "muted" => "0",
                     "dump" => "00000000000000000000000000000000",
                     "outputs" => "00000000 00000000 00000000",
-                    "word" | "block" => "0 0",
+                    "write" | "port_now" | "load" | "flush" => "0 0",
+                    "word" | "block" => "0 0 0 0",
                     _ => "",
                 };
                 assert_eq!(answer, format!("22 {others}").trim_end(), "{line}");

@@ -1,9 +1,13 @@
 //! Writes that fall due together, and what a block leaves. The oracle beside what the scripts say of 01, and beside plain register writes.
 
 mod common;
+#[path = "common/effects.rs"]
+mod effects;
 
 use common::check;
+use effects::Stored;
 use oracle::call::{Call, read};
+use oracle::chip::Effects;
 use oracle::due_cases::{all, by_calls};
 use oracle::script::{Bench, rendered};
 use oracle::variant_cases::due_writes;
@@ -16,7 +20,8 @@ fn as_01_says() {
     assert!(checked > 2_500, "{checked}");
 }
 
-/// A chip whose queue stays empty: what is due is written to the registers ahead of its word, and a block is one word after another.
+/// A chip whose queue stays empty: what is due is written to the registers ahead of its word, and a block is one word after another. What it
+/// reports of these writes is counted over them.
 #[derive(Default)]
 struct Plain {
     bench: Bench,
@@ -43,32 +48,37 @@ impl Plain {
         "0".to_string()
     }
 
-    fn write_up_to(&mut self, end: u64) {
+    fn write_up_to(&mut self, end: u64) -> Vec<(u8, u8)> {
+        let mut written = Vec::new();
         while let Some((_, register, value)) = self.waiting.pop_front_if(|(stamp, _, _)| *stamp <= end) {
             self.bench.chip.write_register(register, value);
+            written.push((register, value));
         }
+        written
     }
 
-    fn word(&mut self) -> u16 {
-        let (_, _, cycles) = self.bench.chip.clocks();
-        self.write_up_to(self.bench.chip.start() + cycles);
-        self.bench.chip.compute_next_sample()
+    fn flush(&mut self) -> String {
+        let bytes = self.bench.chip.dump_registers();
+        let Effects { changed, restarted } = Stored::counted(bytes, self.write_up_to(u64::MAX));
+        format!("0 {changed} {restarted}")
     }
 
     fn block(&mut self, length: usize) -> String {
-        let before = self.bench.chip.ticks();
-        let words: Vec<u16> = (0..length).map(|_| self.word()).collect();
-        rendered(0, self.bench.chip.ticks() - before, &words)
+        let (_, _, cycles) = self.bench.chip.clocks();
+        let (before, bytes) = (self.bench.chip.ticks(), self.bench.chip.dump_registers());
+        let (mut words, mut written) = (Vec::new(), Vec::new());
+        for _ in 0..length {
+            written.extend(self.write_up_to(self.bench.chip.start() + cycles));
+            words.push(self.bench.chip.compute_next_sample());
+        }
+        rendered(0, self.bench.chip.ticks() - before, Stored::counted(bytes, written), &words)
     }
 
     /// Answer and state, as the oracle prints them of a chip with a queue.
     fn printed(&mut self, line: &str) -> String {
         let answer = match read(line).unwrap() {
             Call::Port(port, value) if port & 2 != 0 => self.queue(value),
-            Call::Flush => {
-                self.write_up_to(u64::MAX);
-                "0".to_string()
-            }
+            Call::Flush => self.flush(),
             Call::Word => self.block(1),
             Call::Block(length) => self.block(length),
             Call::Pending => format!("0 {}", self.waiting.len()),

@@ -102,7 +102,7 @@ fn each_word(case: &Case, mut seen: impl FnMut(&State)) {
         let state = State(state);
         let all = [0, 1, 2].map(|channel| heard(&state, channel));
         let word: u16 = all.iter().map(|(out, _, _)| out).sum();
-        assert_eq!(answer, format!("0 1 1 {word}"), "{}, line {}", case.name, place + 1);
+        assert_eq!(answer, format!("0 1 1 0 0 {word}"), "{}, line {}", case.name, place + 1);
         for (name, (_, output, amplitude)) in ["a", "b", "c"].iter().zip(all) {
             let bits = [output, amplitude].map(|value| format!("{:08x}", value.to_bits()));
             assert_eq!(state.field(name)[2..], bits, "{}, line {}, {name}", case.name, place + 1);
@@ -147,11 +147,11 @@ fn worked_cases() {
     let loud = "load 020002000200003f0f0f0f0000000000\nword\n".to_string();
     let rising = "write 0 2\nwrite 8 31\nwrite 13 13\nblock 5\n".to_string();
     for (variant, [four, one, five]) in [
-        (0, ["0 4 4 9234 100 100 9234", "0 1 1 27552", "0 5 5 110 121 135 151 170"]),
-        (1, ["0 4 4 10972 100 100 10972", "0 1 1 32766", "0 5 5 110 121 135 151 170"]),
-        (2, ["0 4 4 9234 100 100 9234", "0 1 1 27552", "0 5 5 100 121 121 151 151"]),
+        (0, ["0 4 4 0 0 9234 100 100 9234", "0 1 1 0 0 27552", "0 5 5 0 0 110 121 135 151 170"]),
+        (1, ["0 4 4 0 0 10972 100 100 10972", "0 1 1 0 0 32766", "0 5 5 0 0 110 121 135 151 170"]),
+        (2, ["0 4 4 0 0 9234 100 100 9234", "0 1 1 0 0 27552", "0 5 5 0 0 100 121 121 151 151"]),
     ] {
-        let fresh = ("word\n".to_string(), "0 1 1 75");
+        let fresh = ("word\n".to_string(), "0 1 1 0 0 75");
         for (script, answer) in [fresh, (dump.clone(), four), (loud.clone(), one), (rising.clone(), five)] {
             let mut printed = String::new();
             let mut bench = Bench::default();

@@ -1,11 +1,15 @@
 //! 02, request 06: an envelope's entry from its shape's bits. The oracle beside words worked out from 01, and beside the page that has the
 //! crate's table. Those of 02's request 05 that are about shapes too.
 
+#[path = "common/effects.rs"]
+mod effects;
 #[path = "common/levels.rs"]
 mod levels;
 
+use effects::Stored;
 use levels::{LEVELS, ROWS, entry, used};
 use oracle::call::{Call, read};
+use oracle::chip::Effects;
 use oracle::script::{Bench, rendered};
 use oracle::script_cases::Case;
 use oracle::set::Field;
@@ -28,6 +32,7 @@ struct ByHand {
     volume: u8,
     period: u64,
     shape: u8,
+    stored: Stored,
     /// A place of the envelope, and the ticks that had run when it came to it with counter 0.
     from: (u64, u64),
 }
@@ -43,6 +48,7 @@ impl ByHand {
     }
 
     fn write(&mut self, register: u8, value: u8) {
+        self.stored.write(register, value);
         match register {
             8 => self.volume = value,
             11 => self.period = value as u64,
@@ -81,11 +87,12 @@ impl ByHand {
     fn block(&mut self, length: usize) -> String {
         let before = self.ticks();
         let words: Vec<u16> = (0..length).map(|_| self.word()).collect();
-        rendered(0, self.ticks() - before, &words)
+        rendered(0, self.ticks() - before, self.stored.effects, &words)
     }
 
     /// What a word or a block answers.
     fn line(&mut self, line: &str) -> Option<String> {
+        self.stored.effects = Effects::default();
         match read(line)? {
             Call::New(2_000_000, rate) => *self = ByHand { rate: rate as u64, ..ByHand::default() },
             Call::Make(2_000_000, rate, variant) => *self = ByHand { rate: rate as u64, variant, ..ByHand::default() },
@@ -151,15 +158,15 @@ fn words_of_the_variants() {
 #[test]
 fn three_changes_by_hand() {
     for (rate, [first, fifth, last], words) in [
-        (250_000, [32, 160, 256], "0 8 8 60 71 85 101 9184 7723 6494 60"),
-        (44_100, [181, 905, 1_448], "0 8 46 143 405 1148 2730 3861 1365 574 143"),
+        (250_000, [32, 160, 256], "0 8 8 3 3 60 71 85 101 9184 7723 6494 60"),
+        (44_100, [181, 905, 1_448], "0 8 46 3 3 143 405 1148 2730 3861 1365 574 143"),
     ] {
         let script = format!(
             "new 2000000 {rate}\nmute 1 1\nmute 2 1\nwrite 0 2\nwrite 8 16\nwrite 13 8\nport 0 13\n\
             cycle {first}\nport 2 13\ncycle {fifth}\nport 2 8\ncycle {last}\nport 2 13"
         );
         let mut bench = Bench::default();
-        script.lines().for_each(|line| assert_eq!(answer(&mut bench, line), "0", "{line}"));
+        script.lines().for_each(|line| assert!(answer(&mut bench, line).starts_with('0'), "{line}"));
         assert_eq!(answer(&mut bench, "block 8"), words);
     }
 }

@@ -1,6 +1,7 @@
 //! The calls as the library exports them. What is printed is all that a call answered, of a refused one too.
 
 use oracle::call::Call;
+use oracle::chip::Effects;
 use oracle::script::{bits, hex, rendered};
 use ym2149_proved::Record;
 use ym2149_proved::calls::*;
@@ -14,13 +15,13 @@ pub fn answer(chip: &mut Record, call: Call) -> String {
             Call::Make(master, rate, variant) => ym2149_with_variant(chip, master, rate, variant).to_string(),
             Call::Default => ym2149_new(chip).to_string(),
             Call::Reset => ym2149_reset(chip).to_string(),
-            Call::Write(register, value) => ym2149_write_register(chip, register, value).to_string(),
-            Call::Load(bytes) => ym2149_load_registers(chip, Registers { bytes }).to_string(),
+            Call::Write(register, value) => one(ym2149_write_register(chip, register, value)),
+            Call::Load(bytes) => all(ym2149_load_registers(chip, Registers { bytes })),
             Call::Port(port, value) => ym2149_write_port(chip, port, value).to_string(),
-            Call::PortNow(port, value) => ym2149_write_port_immediate(chip, port, value).to_string(),
+            Call::PortNow(port, value) => one(ym2149_write_port_immediate(chip, port, value)),
             Call::Cycle(cycle) => ym2149_set_cpu_cycle(chip, cycle).to_string(),
             Call::Sync(cycle) => ym2149_sync_sample_cycle(chip, cycle).to_string(),
-            Call::Flush => ym2149_flush_pending_writes(chip).to_string(),
+            Call::Flush => all(ym2149_flush_pending_writes(chip)),
             Call::Irq(on) => ym2149_set_timer_irq_state(chip, on).to_string(),
             Call::InsideIrq(inside) => ym2149_inside_timer_irq(chip, inside).to_string(),
             Call::Trigger => ym2149_trigger_envelope(chip).to_string(),
@@ -58,17 +59,25 @@ pub fn answer(chip: &mut Record, call: Call) -> String {
                 format!("{no} {} {} {}", bits(a), bits(b), bits(c))
             }
             Call::Word => {
-                let Sample { no, word, ticks } = ym2149_compute_next_sample(chip);
+                let Sample { no, word, ticks, changed, restarted } = ym2149_compute_next_sample(chip);
                 // a refused word is 0: another one is shown, and so differs
                 let words = if no == 0 || word != 0 { &[word][..] } else { &[] };
-                rendered(no, ticks, words)
+                rendered(no, ticks, Effects { changed, restarted }, words)
             }
             Call::Block(length) => {
                 let mut out = vec![0; length];
-                let Played { no, words, ticks } = ym2149_block(chip, out.as_mut_ptr(), length);
-                rendered(no, ticks, &out[..words])
+                let Played { no, words, ticks, changed, restarted } = ym2149_block(chip, out.as_mut_ptr(), length);
+                rendered(no, ticks, Effects { changed, restarted }, &out[..words])
             }
             Call::Waiting(_) | Call::Lent(_) | Call::Set(..) => unreachable!(),
         }
     }
+}
+
+fn one(Wrote { no, changed, restarted }: Wrote) -> String {
+    format!("{no} {} {}", changed as u8, restarted as u8)
+}
+
+fn all(Counts { no, changed, restarted }: Counts) -> String {
+    format!("{no} {changed} {restarted}")
 }

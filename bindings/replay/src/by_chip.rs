@@ -1,8 +1,9 @@
 //! The calls by `Chip`, on a chip that is handed the record and hands it back.
 
 use oracle::call::Call;
+use oracle::chip::Effects;
 use oracle::script::{bits, hex, rendered};
-use ym2149_proved::{Chip, Record, Refusal};
+use ym2149_proved::{Block, Chip, Effect, Record, Refusal, Word};
 
 pub fn answer(record: &mut Record, call: Call) -> String {
     let mut chip = Chip::from_record(*record);
@@ -20,13 +21,13 @@ fn asked(chip: &mut Chip, call: Call) -> String {
             "0".into()
         }
         Call::Reset => number(chip.reset()),
-        Call::Write(register, value) => number(chip.write_register(register, value)),
-        Call::Load(bytes) => number(chip.load_registers(bytes)),
+        Call::Write(register, value) => one(chip.write_register(register, value)),
+        Call::Load(bytes) => all(chip.load_registers(bytes)),
         Call::Port(port, value) => number(chip.write_port(port, value)),
-        Call::PortNow(port, value) => number(chip.write_port_immediate(port, value)),
+        Call::PortNow(port, value) => one(chip.write_port_immediate(port, value)),
         Call::Cycle(cycle) => number(chip.set_cpu_cycle(cycle)),
         Call::Sync(cycle) => number(chip.sync_sample_cycle(cycle)),
-        Call::Flush => number(chip.flush_pending_writes()),
+        Call::Flush => all(chip.flush_pending_writes()),
         Call::Irq(on) => number(chip.set_timer_irq_state(on)),
         Call::InsideIrq(inside) => number(chip.inside_timer_irq(inside)),
         Call::Trigger => number(chip.trigger_envelope()),
@@ -61,14 +62,14 @@ fn asked(chip: &mut Chip, call: Call) -> String {
             format!("{no} {} {} {}", bits(a), bits(b), bits(c))
         }
         Call::Word => match chip.compute_next_sample() {
-            Ok(played) => rendered(0, played.ticks, &[played.word]),
-            Err(refusal) => rendered(refusal.number(), 0, &[]),
+            Ok(Word { word, ticks, changed, restarted }) => rendered(0, ticks, Effects { changed, restarted }, &[word]),
+            Err(refusal) => rendered(refusal.number(), 0, Effects::default(), &[]),
         },
         Call::Block(length) => {
             let mut out = vec![0; length];
             match chip.block(&mut out) {
-                Ok(ticks) => rendered(0, ticks, &out),
-                Err(refusal) => rendered(refusal.number(), 0, &[]),
+                Ok(Block { ticks, changed, restarted }) => rendered(0, ticks, Effects { changed, restarted }, &out),
+                Err(refusal) => rendered(refusal.number(), 0, Effects::default(), &[]),
             }
         }
         Call::Waiting(_) | Call::Lent(_) | Call::Set(..) => unreachable!(),
@@ -91,4 +92,14 @@ fn told<T: Default>(answer: Result<T, Refusal>) -> (u8, T) {
 
 fn number(answer: Result<(), Refusal>) -> String {
     told(answer).0.to_string()
+}
+
+fn one(answer: Result<Effect, Refusal>) -> String {
+    let (no, Effect { changed, restarted }) = told(answer);
+    format!("{no} {} {}", changed as u8, restarted as u8)
+}
+
+fn all(answer: Result<ym2149_proved::Effects, Refusal>) -> String {
+    let (no, counted) = told(answer);
+    format!("{no} {} {}", counted.changed, counted.restarted)
 }

@@ -58,10 +58,28 @@ pub struct Outputs {
 
 #[repr(C)]
 #[derive(Clone, Copy, Debug, PartialEq)]
+pub struct Wrote {
+    pub no: u8,
+    pub changed: bool,
+    pub restarted: bool,
+}
+
+#[repr(C)]
+#[derive(Clone, Copy, Debug, PartialEq)]
+pub struct Counts {
+    pub no: u8,
+    pub changed: u32,
+    pub restarted: u32,
+}
+
+#[repr(C)]
+#[derive(Clone, Copy, Debug, PartialEq)]
 pub struct Sample {
     pub no: u8,
     pub word: u16,
     pub ticks: u64,
+    pub changed: u32,
+    pub restarted: u32,
 }
 
 #[repr(C)]
@@ -70,6 +88,8 @@ pub struct Played {
     pub no: u8,
     pub words: usize,
     pub ticks: u64,
+    pub changed: u32,
+    pub restarted: u32,
 }
 
 laid_out!(Registers, 16);
@@ -79,8 +99,10 @@ laid_out!(Cycle, 16, cycle 8);
 laid_out!(Count, 16, count 8);
 laid_out!(Flag, 2, yes 1);
 laid_out!(Outputs, 16, a 4, b 8, c 12);
-laid_out!(Sample, 16, word 2, ticks 8);
-laid_out!(Played, 24, words 8, ticks 16);
+laid_out!(Wrote, 3, changed 1, restarted 2);
+laid_out!(Counts, 12, changed 4, restarted 8);
+laid_out!(Sample, 24, word 2, ticks 8, changed 16, restarted 20);
+laid_out!(Played, 32, words 8, ticks 16, changed 24, restarted 28);
 
 unsafe extern "C" {
     pub fn ym2149_new(chip: *mut Record) -> u8;
@@ -88,13 +110,13 @@ unsafe extern "C" {
     pub fn ym2149_with_variant(chip: *mut Record, master: u32, rate: u32, variant: u8) -> u8;
 
     pub fn ym2149_reset(chip: *mut Record) -> u8;
-    pub fn ym2149_write_register(chip: *mut Record, register: u8, value: u8) -> u8;
-    pub fn ym2149_load_registers(chip: *mut Record, registers: Registers) -> u8;
+    pub fn ym2149_write_register(chip: *mut Record, register: u8, value: u8) -> Wrote;
+    pub fn ym2149_load_registers(chip: *mut Record, registers: Registers) -> Counts;
     pub fn ym2149_write_port(chip: *mut Record, port: u8, value: u8) -> u8;
-    pub fn ym2149_write_port_immediate(chip: *mut Record, port: u8, value: u8) -> u8;
+    pub fn ym2149_write_port_immediate(chip: *mut Record, port: u8, value: u8) -> Wrote;
     pub fn ym2149_set_cpu_cycle(chip: *mut Record, cycle: u64) -> u8;
     pub fn ym2149_sync_sample_cycle(chip: *mut Record, cycle: u64) -> u8;
-    pub fn ym2149_flush_pending_writes(chip: *mut Record) -> u8;
+    pub fn ym2149_flush_pending_writes(chip: *mut Record) -> Counts;
     pub fn ym2149_set_timer_irq_state(chip: *mut Record, on: bool) -> u8;
     pub fn ym2149_inside_timer_irq(chip: *mut Record, inside: bool) -> u8;
     pub fn ym2149_trigger_envelope(chip: *mut Record) -> u8;

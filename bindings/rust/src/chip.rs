@@ -10,11 +10,35 @@ pub struct Chip {
     record: Record,
 }
 
-/// A word, and the ticks run for it.
+/// Of one register write: whether the byte as it is stored changed, and whether the envelope restarted, which R13 does by the same byte too.
+#[derive(Clone, Copy, Debug, Default, PartialEq, Eq)]
+pub struct Effect {
+    pub changed: bool,
+    pub restarted: bool,
+}
+
+/// Of the writes that a call applied: how many changed a byte, each held to the one just before it, and how many restarted the envelope.
+#[derive(Clone, Copy, Debug, Default, PartialEq, Eq)]
+pub struct Effects {
+    pub changed: u32,
+    pub restarted: u32,
+}
+
+/// A word, the ticks run for it, and how many of the writes due in it changed a byte and restarted the envelope.
 #[derive(Clone, Copy, Debug, PartialEq, Eq)]
 pub struct Word {
     pub word: u16,
     pub ticks: u64,
+    pub changed: u32,
+    pub restarted: u32,
+}
+
+/// The ticks run for a block, and how many of the writes due in its words changed a byte and restarted the envelope.
+#[derive(Clone, Copy, Debug, PartialEq, Eq)]
+pub struct Block {
+    pub ticks: u64,
+    pub changed: u32,
+    pub restarted: u32,
 }
 
 // Of every call below: the record is this chip's own, lent to it alone; a Rust bool holds 0 or 1; a slice is as long as it says.
@@ -73,13 +97,13 @@ impl Chip {
     }
 
     /// At once. Registers 14 and up change nothing.
-    pub fn write_register(&mut self, register: u8, value: u8) -> Result<(), Refusal> {
-        done(unsafe { ym2149_write_register(&mut self.record, register, value) })
+    pub fn write_register(&mut self, register: u8, value: u8) -> Result<Effect, Refusal> {
+        one(unsafe { ym2149_write_register(&mut self.record, register, value) })
     }
 
     /// Writes bytes 0 to 13 in order, an R13 of ff too: only the dump player leaves that out.
-    pub fn load_registers(&mut self, bytes: [u8; 16]) -> Result<(), Refusal> {
-        done(unsafe { ym2149_load_registers(&mut self.record, Registers { bytes }) })
+    pub fn load_registers(&mut self, bytes: [u8; 16]) -> Result<Effects, Refusal> {
+        all(unsafe { ym2149_load_registers(&mut self.record, Registers { bytes }) })
     }
 
     /// Port bit 1 clear selects at once; set, it queues the write with the current stamp and selected number.
@@ -87,9 +111,9 @@ impl Chip {
         done(unsafe { ym2149_write_port(&mut self.record, port, value) })
     }
 
-    /// Skips the queue.
-    pub fn write_port_immediate(&mut self, port: u8, value: u8) -> Result<(), Refusal> {
-        done(unsafe { ym2149_write_port_immediate(&mut self.record, port, value) })
+    /// Skips the queue. Selecting changes no stored byte.
+    pub fn write_port_immediate(&mut self, port: u8, value: u8) -> Result<Effect, Refusal> {
+        one(unsafe { ym2149_write_port_immediate(&mut self.record, port, value) })
     }
 
     /// Sets the stamp of later writes.
@@ -103,8 +127,8 @@ impl Chip {
     }
 
     /// Applies all waiting writes in order.
-    pub fn flush_pending_writes(&mut self) -> Result<(), Refusal> {
-        done(unsafe { ym2149_flush_pending_writes(&mut self.record) })
+    pub fn flush_pending_writes(&mut self) -> Result<Effects, Refusal> {
+        all(unsafe { ym2149_flush_pending_writes(&mut self.record) })
     }
 
     /// Setting the IRQ flag off flips each pending channel once, clears its counter, and unmarks it.
@@ -182,17 +206,26 @@ impl Chip {
 impl Chip {
     /// A block of one.
     pub fn compute_next_sample(&mut self) -> Result<Word, Refusal> {
-        let sample = unsafe { ym2149_compute_next_sample(&mut self.record) };
-        Refusal::unless(sample.no, Word { word: sample.word, ticks: sample.ticks })
+        let Sample { no, word, ticks, changed, restarted } = unsafe { ym2149_compute_next_sample(&mut self.record) };
+        Refusal::unless(no, Word { word, ticks, changed, restarted })
     }
 
-    /// Fills the whole of `out` and answers the ticks run; refused, `out` is as it was. An empty block is accepted and changes nothing.
-    pub fn block(&mut self, out: &mut [u16]) -> Result<u64, Refusal> {
+    /// Fills the whole of `out`; refused, `out` is as it was. An empty block is accepted and changes nothing.
+    pub fn block(&mut self, out: &mut [u16]) -> Result<Block, Refusal> {
         let played = unsafe { ym2149_block(&mut self.record, out.as_mut_ptr(), out.len()) };
-        Refusal::unless(played.no, played.ticks)
+        let Played { no, ticks, changed, restarted, .. } = played;
+        Refusal::unless(no, Block { ticks, changed, restarted })
     }
 }
 
 fn done(no: u8) -> Result<(), Refusal> {
     Refusal::unless(no, ())
+}
+
+fn one(wrote: Wrote) -> Result<Effect, Refusal> {
+    Refusal::unless(wrote.no, Effect { changed: wrote.changed, restarted: wrote.restarted })
+}
+
+fn all(counts: Counts) -> Result<Effects, Refusal> {
+    Refusal::unless(counts.no, Effects { changed: counts.changed, restarted: counts.restarted })
 }

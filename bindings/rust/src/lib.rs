@@ -6,8 +6,9 @@
 //! let mut chip = Chip::with_clocks(2_000_000, 250_000)?;
 //! chip.load_registers([0x02, 0, 0, 0, 0, 0, 0, 0x3e, 0x0f, 0, 0, 0, 0, 0, 0, 0])?;
 //! let mut out = [0; 4];
-//! assert_eq!(chip.block(&mut out), Ok(4));
+//! assert_eq!(chip.block(&mut out)?.ticks, 4);
 //! assert_eq!(out, [9234, 100, 100, 9234]);
+//! assert!(chip.write_register(8, 0x0e)?.changed && !chip.write_register(8, 0xee)?.changed);
 //! assert_eq!(Chip::with_clocks(2_000_000, 250_001), Err(Refusal::RATE_TOO_HIGH));
 //! # Ok::<(), Refusal>(())
 //! ```
@@ -21,6 +22,6 @@ mod chip;
 pub mod record;
 mod refusal;
 
-pub use chip::{Chip, Word};
+pub use chip::{Block, Chip, Effect, Effects, Word};
 pub use record::Record;
 pub use refusal::Refusal;

@@ -2,7 +2,7 @@
 
 use std::mem::size_of;
 use ym2149_proved::calls::*;
-use ym2149_proved::{Chip, Record, Refusal, Word};
+use ym2149_proved::{Block, Chip, Effect, Effects, Record, Refusal, Word};
 
 const BUSY: [u8; 16] = [0x1c, 0xff, 0x7b, 0, 5, 0, 0xff, 0, 0x0f, 0x10, 0xff, 0x30, 0, 0xfe, 1, 2];
 
@@ -17,6 +17,22 @@ fn waiting_256() -> Chip {
     chip
 }
 
+/// A write that changed its byte, and did not restart the envelope.
+const CHANGED: Result<Effect, Refusal> = one(true, false);
+
+const fn one(changed: bool, restarted: bool) -> Result<Effect, Refusal> {
+    Ok(Effect { changed, restarted })
+}
+
+const fn all(changed: u32, restarted: u32) -> Result<Effects, Refusal> {
+    Ok(Effects { changed, restarted })
+}
+
+/// A block of so many ticks in which nothing was due.
+const fn ticks(ticks: u64) -> Result<Block, Refusal> {
+    Ok(Block { ticks, changed: 0, restarted: 0 })
+}
+
 /// A record that the host has changed.
 fn with(change: fn(&mut Record)) -> Chip {
     let mut record = *chip().record();
@@ -29,8 +45,8 @@ fn default_clocks_take_a_tick_to_a_word() {
     let mut chip = Chip::new();
     let clocks = chip.record().core.clocks;
     assert_eq!((clocks.master, clocks.rate, clocks.internal, clocks.cycles), (2_000_000, 250_000, 250_000, 32));
-    assert_eq!(chip.compute_next_sample(), Ok(Word { word: 75, ticks: 1 }));
-    assert_eq!(chip.block(&mut [0; 4]), Ok(4));
+    assert_eq!(chip.compute_next_sample(), Ok(Word { word: 75, ticks: 1, changed: 0, restarted: 0 }));
+    assert_eq!(chip.block(&mut [0; 4]), ticks(4));
     assert_eq!((chip.record().core.accumulator, chip.record().core.start), (0, 160));
     assert_eq!(chip.reset(), Ok(()));
     assert_eq!((chip.record().core.clocks.rate, chip.record().core.start), (250_000, 0));
@@ -39,7 +55,7 @@ fn default_clocks_take_a_tick_to_a_word() {
 #[test]
 fn clocks_of_44100_take_6_6_6_5_ticks() {
     let mut chip = chip();
-    assert_eq!(chip.compute_next_sample(), Ok(Word { word: 75, ticks: 6 }));
+    assert_eq!(chip.compute_next_sample(), Ok(Word { word: 75, ticks: 6, changed: 0, restarted: 0 }));
     assert_eq!([0; 3].map(|_| chip.compute_next_sample().unwrap().ticks), [6, 6, 5]);
     assert_eq!(chip.record().core.accumulator, 14_300);
     assert_eq!((chip.record().core.clocks.master, chip.record().core.clocks.rate), (2_000_000, 44_100));
@@ -72,13 +88,13 @@ fn a_variant_has_its_words() {
         (2, [9_234, 100, 100, 9_234], [100, 121, 121, 151, 151]),
     ] {
         let mut chip = Chip::with_variant(2_000_000, 250_000, variant).unwrap();
-        assert_eq!(chip.load_registers([0x02, 0, 0, 0, 0, 0, 0, 0x3e, 0x0f, 0, 0, 0, 0, 0, 0, 0]), Ok(()));
+        assert_eq!(chip.load_registers([0x02, 0, 0, 0, 0, 0, 0, 0x3e, 0x0f, 0, 0, 0, 0, 0, 0, 0]), all(3, 1));
         let mut out = [0; 4];
-        assert_eq!((chip.block(&mut out), out), (Ok(4), four));
+        assert_eq!((chip.block(&mut out), out), (ticks(4), four));
         assert_eq!((chip.reset(), chip.record().core.variant), (Ok(()), variant));
-        assert_eq!(chip.load_registers([0x02, 0, 0, 0, 0, 0, 0, 0x3f, 0x1f, 0, 0, 0, 0, 0x0d, 0, 0]), Ok(()));
+        assert_eq!(chip.load_registers([0x02, 0, 0, 0, 0, 0, 0, 0x3f, 0x1f, 0, 0, 0, 0, 0x0d, 0, 0]), all(3, 1));
         let mut out = [0; 5];
-        assert_eq!((chip.block(&mut out), out), (Ok(5), five));
+        assert_eq!((chip.block(&mut out), out), (ticks(5), five));
         assert_eq!(chip.record().core.variant, variant);
     }
 }
@@ -109,11 +125,11 @@ fn refused_variants_give_13_after_1_2_and_3() {
 #[test]
 fn bytes_are_masked_and_stored() {
     let mut chip = chip();
-    assert_eq!(chip.load_registers(BUSY), Ok(()));
+    assert_eq!(chip.load_registers(BUSY), all(11, 1));
     assert_eq!(chip.dump_registers(), Ok([0x1c, 0x0f, 0x7b, 0, 5, 0, 0x1f, 0, 0x0f, 0x10, 0x1f, 0x30, 0, 0x0e, 0, 0]));
-    assert_eq!(chip.write_register(8, 0xff), Ok(()));
+    assert_eq!(chip.write_register(8, 0xff), CHANGED);
     assert_eq!((chip.read_register(8), chip.read_register(14)), (Ok(0x1f), Ok(0)));
-    assert_eq!(chip.write_register(14, 1), Ok(()));
+    assert_eq!(chip.write_register(14, 1), one(false, false));
 }
 
 #[test]
@@ -123,10 +139,46 @@ fn a_data_write_waits_until_the_flush() {
     assert_eq!(chip.read_port(0), Ok(0xff));
     assert_eq!((chip.write_port(0, 8), chip.write_port(2, 9)), (Ok(()), Ok(())));
     assert_eq!((chip.pending_write_count(), chip.read_port(0)), (Ok(1), Ok(0)));
-    assert_eq!(chip.flush_pending_writes(), Ok(()));
+    assert_eq!(chip.flush_pending_writes(), all(1, 0));
     assert_eq!((chip.pending_write_count(), chip.read_port(0), chip.read_port(2)), (Ok(0), Ok(9), Ok(0xff)));
-    assert_eq!(chip.write_port_immediate(2, 5), Ok(()));
+    assert_eq!(chip.write_port_immediate(2, 5), CHANGED);
     assert_eq!(chip.read_register(8), Ok(5));
+}
+
+/// 02, request 03: the byte as it is stored; R13 restarts by the same byte too; 14 and a selection do neither.
+#[test]
+fn a_write_says_what_it_changed() {
+    let mut chip = chip();
+    assert_eq!((chip.write_register(1, 0x0f), chip.write_register(1, 0xff)), (one(true, false), one(false, false)));
+    assert_eq!((chip.write_register(13, 0), chip.write_register(13, 9)), (one(false, true), one(true, true)));
+    assert_eq!((chip.write_register(14, 1), chip.write_register(255, 1)), (one(false, false), one(false, false)));
+    assert_eq!((chip.write_port_immediate(0, 13), chip.write_port_immediate(2, 9)), (one(false, false), one(false, true)));
+    assert_eq!((chip.load_registers([1; 16]), chip.load_registers([1; 16])), (all(14, 1), all(0, 1)));
+}
+
+fn queue(chip: &mut Chip, stamp: u64, register: u8, values: &[u8]) {
+    assert_eq!((chip.set_cpu_cycle(stamp), chip.write_port(0, register)), (Ok(()), Ok(())));
+    assert!(values.iter().all(|value| chip.write_port(2, *value) == Ok(())));
+}
+
+/// R8 is 5; 5, 6, 5: by a flush, by a word, and by three words of a block, with R13 and R14 among them. A word is 181 cycles.
+#[test]
+fn a_call_counts_what_its_writes_changed() {
+    let mut chip = chip();
+    assert_eq!(chip.write_register(8, 5), CHANGED);
+    queue(&mut chip, 0, 8, &[5, 6, 5]);
+    assert_eq!((chip.flush_pending_writes(), chip.flush_pending_writes()), (all(2, 0), all(0, 0)));
+    queue(&mut chip, 181, 8, &[5, 6, 5]);
+    let word = chip.compute_next_sample().unwrap();
+    assert_eq!((word.changed, word.restarted), (2, 0));
+    for (stamp, register, value) in [(362, 8, 5), (363, 8, 6), (543, 13, 0), (543, 14, 9), (724, 8, 5), (724, 13, 2), (725, 13, 3)] {
+        queue(&mut chip, stamp, register, &[value]);
+    }
+    assert_eq!(chip.block(&mut []), ticks(0));
+    assert_eq!(chip.block(&mut vec![0; 65_537]), Err(Refusal::BLOCK_TOO_LONG));
+    let block = chip.block(&mut [0; 3]).unwrap();
+    assert_eq!((block.changed, block.restarted, chip.pending_write_count()), (3, 2, Ok(1)));
+    assert_eq!((chip.reset(), chip.flush_pending_writes()), (Ok(()), all(0, 0)));
 }
 
 #[test]
@@ -152,7 +204,7 @@ fn stamps_500_then_100() {
 fn the_irq_ends_and_a_pending_channel_flips() {
     let mut chip = chip();
     let edges = chip.record().core.voice.generators.b.edges;
-    assert_eq!((chip.set_timer_irq_state(true), chip.write_register(2, 1)), (Ok(()), Ok(())));
+    assert_eq!((chip.set_timer_irq_state(true), chip.write_register(2, 1)), (Ok(()), CHANGED));
     assert!(chip.record().core.voice.irq && chip.record().core.voice.generators.b.pending);
     assert_eq!(chip.inside_timer_irq(false), Ok(()));
     assert_eq!(chip.record().core.voice.generators.b.edges, edges ^ 0x3e0);
@@ -185,7 +237,7 @@ fn drums_and_mutes() {
 #[test]
 fn reset_keeps_mutes_and_the_noise_period() {
     let mut chip = chip();
-    assert_eq!((chip.set_channel_mute(2, true), chip.write_register(6, 31)), (Ok(()), Ok(())));
+    assert_eq!((chip.set_channel_mute(2, true), chip.write_register(6, 31)), (Ok(()), CHANGED));
     assert_eq!(chip.reset(), Ok(()));
     assert_eq!((chip.is_channel_muted(2), chip.read_register(6), chip.read_register(7)), (Ok(true), Ok(0), Ok(0x3f)));
     assert_eq!(chip.record().core.voice.generators.noise.period, 31);
@@ -195,13 +247,13 @@ fn reset_keeps_mutes_and_the_noise_period() {
 fn blocks_and_their_limits() {
     let mut chip = Chip::with_clocks(2_000_000, 250_000).unwrap();
     let before = chip.clone();
-    assert_eq!(chip.block(&mut []), Ok(0));
+    assert_eq!(chip.block(&mut []), ticks(0));
     assert_eq!(chip, before);
-    assert_eq!(chip.block(&mut vec![0; 65_536]), Ok(65_536));
+    assert_eq!(chip.block(&mut vec![0; 65_536]), ticks(65_536));
     assert_eq!(chip.block(&mut vec![0; 65_537]), Err(Refusal::BLOCK_TOO_LONG));
     assert_eq!(chip.sync_sample_cycle(u64::MAX - 63), Ok(()));
     assert_eq!(chip.block(&mut [0; 2]), Err(Refusal::BLOCK_TOO_LATE));
-    assert_eq!(chip.block(&mut [0; 1]), Ok(1));
+    assert_eq!(chip.block(&mut [0; 1]), ticks(1));
     assert_eq!(chip.compute_next_sample(), Err(Refusal::BLOCK_TOO_LATE));
 }
 
@@ -270,7 +322,14 @@ fn a_refused_call_changes_no_byte() {
     refused_block(&mut room, 65_537, 5);
     unsafe { (*room.record()).core.selected = 16 };
     let before = room.clone();
-    assert_eq!(unsafe { ym2149_write_register(room.record(), 8, 1) }, 22);
+    let nothing = Counts { no: 22, changed: 0, restarted: 0 };
+    let (neither, registers) = (Wrote { no: 22, changed: false, restarted: false }, Registers { bytes: BUSY });
+    assert_eq!(unsafe { ym2149_write_register(room.record(), 13, 1) }, neither);
+    assert_eq!(unsafe { ym2149_write_port_immediate(room.record(), 2, 1) }, neither);
+    assert_eq!(unsafe { ym2149_load_registers(room.record(), registers) }, nothing);
+    assert_eq!(unsafe { ym2149_flush_pending_writes(room.record()) }, nothing);
+    let silence = Sample { no: 22, word: 0, ticks: 0, changed: 0, restarted: 0 };
+    assert_eq!(unsafe { ym2149_compute_next_sample(room.record()) }, silence);
     assert!(room == before);
     refused_block(&mut room, 4, 22);
 }
@@ -278,6 +337,6 @@ fn a_refused_call_changes_no_byte() {
 fn refused_block(room: &mut Room, words: usize, no: u8) {
     let (before, mut out) = (room.clone(), vec![7; words]);
     let played = unsafe { ym2149_block(room.record(), out.as_mut_ptr(), words) };
-    assert_eq!(played, Played { no, words: 0, ticks: 0 });
+    assert_eq!(played, Played { no, words: 0, ticks: 0, changed: 0, restarted: 0 });
     assert!(*room == before && out.iter().all(|&word| word == 7));
 }

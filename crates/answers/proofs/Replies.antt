@@ -2,6 +2,8 @@
 use Rattle.answers.specs.declared.Answered.{Answered}
 use Rattle.answers.specs.declared.Blocked.{Blocked}
 use Rattle.answers.specs.declared.Sampled.{Sampled}
+use Rattle.answers.specs.declared.Applied.{Applied}
+use Rattle.answers.specs.declared.Written.{Written}
 use Rattle.answers.proofs.Answered as answered′
 use Rattle.answers.proofs.Blocked as blocked′
 use Rattle.answers.proofs.Sampled as sampled′
@@ -21,6 +23,12 @@ use Rattle.answers.proofs.Played as played′
 use Rattle.answers.proofs.Played.Laws as played-laws
 use Rattle.answers.proofs.Sample as sample′
 use Rattle.answers.proofs.Sample.Laws as sample-laws
+use Rattle.answers.proofs.Applied as applied′
+use Rattle.answers.proofs.Counts as counts′
+use Rattle.answers.proofs.Counts.Laws as counts-laws
+use Rattle.answers.proofs.Written as written′
+use Rattle.answers.proofs.Wrote as wrote′
+use Rattle.answers.proofs.Wrote.Laws as wrote-laws
 use Rattle.chip.proofs.Chip as chip′
 use Rattle.chip.proofs.Chip.Laws as chip-laws
 use Rattle.laws.proofs.Flat.{Lent, Flat, Reply, structf, u8f}
@@ -68,6 +76,12 @@ played = structf played′.the-type played-laws.the-field-laws played-laws.the-f
 abbrev pub sample : Flat
 sample = structf sample′.the-type sample-laws.the-field-laws sample-laws.the-field-plain
 
+abbrev pub wrote : Flat
+wrote = structf wrote′.the-type wrote-laws.the-field-laws wrote-laws.the-field-plain
+
+abbrev pub counts : Flat
+counts = structf counts′.the-type counts-laws.the-field-laws counts-laws.the-field-plain
+
 -- what a by-value call gives back: the chip and the answer
 abbrev pub answered : Reply chip u8f
 answered = record { name = answered′.struct .name; D = Answered; chip = λ r. r .chip; answer = λ r. r .no; to-one = answered′.the-type .to-one }
@@ -77,3 +91,9 @@ blocked = record { name = blocked′.struct .name; D = Blocked; chip = λ r. r .
 
 abbrev pub sampled : Reply chip sample
 sampled = record { name = sampled′.struct .name; D = Sampled; chip = λ r. r .chip; answer = λ r. r .answer; to-one = sampled′.the-type .to-one }
+
+abbrev pub written : Reply chip wrote
+written = record { name = written′.struct .name; D = Written; chip = λ r. r .chip; answer = λ r. r .answer; to-one = written′.the-type .to-one }
+
+abbrev pub applied : Reply chip counts
+applied = record { name = applied′.struct .name; D = Applied; chip = λ r. r .chip; answer = λ r. r .answer; to-one = applied′.the-type .to-one }

@@ -48,11 +48,39 @@ pub struct Outputs {
     pub c: f32,
 }
 
+// What one register write changed. 02, request 03.
+#[repr(C)]
+pub struct Wrote {
+    pub no: u8,
+    pub changed: bool,
+    pub restarted: bool,
+}
+
+pub struct Written {
+    pub chip: Chip,
+    pub answer: Wrote,
+}
+
+// How many of the applied writes changed a byte, and how many restarted the envelope.
+#[repr(C)]
+pub struct Counts {
+    pub no: u8,
+    pub changed: u32,
+    pub restarted: u32,
+}
+
+pub struct Applied {
+    pub chip: Chip,
+    pub answer: Counts,
+}
+
 #[repr(C)]
 pub struct Sample {
     pub no: u8,
     pub word: u16,
     pub ticks: u64,
+    pub changed: u32,
+    pub restarted: u32,
 }
 
 pub struct Sampled {
@@ -65,6 +93,8 @@ pub struct Played {
     pub no: u8,
     pub words: usize,
     pub ticks: u64,
+    pub changed: u32,
+    pub restarted: u32,
 }
 
 pub struct Blocked {

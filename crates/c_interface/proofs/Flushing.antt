@@ -1,32 +1,30 @@
 -- A flush, split into what its step is shown of a lent record, what it takes out, and what is stored back, the three drums too. Assumes nothing.
 use mathlib.Core.Path.{_≡_, refl, sym, ap, _∙_, subst}
-use mathlib.Core.Bool.{Bool, true, false, cond}
+use mathlib.Core.Bool.{Bool, true, false}
 use mathlib.Core.List.{[], _∷_, List}
 use Prim.Native.Nat.{ℕ}
-use Rattle.laws.proofs.Flat.{u8f}
 use Rattle.lent_walks.proofs.Parts.{Part, Reply, FieldsFrom, kinds, offset, puts}
 use Rattle.lent_walks.proofs.Ring as walk
 use Rattle.lent_record.proofs.RecordParts.{count, drum-a, drum-b, drum-c, head, registers, stamps, values, voice}
 use Rattle.lent_record.proofs.Lengths.{record-laid}
-use Rattle.refusals.specs.Numbers.{accepted, outOfRange}
 use Rattle.registers.specs.declared.Voice.{Voice}
 use Rattle.queue.specs.declared.Queue.{Queue}
-use Rattle.queue.specs.Waiting.{emptied, QueueInRange, ring, waiting}
-use Rattle.queue_flush.specs.Applied.{applyAll}
+use Rattle.queue.specs.Waiting.{QueueInRange, ring}
 use Rattle.lent_chip.proofs.ShownRing.{same-ring}
 use Rattle.chip.specs.Range.{chipIn}
 use Rattle.chip.proofs.InRange.{passed}
-use Rattle.answers.specs.Answers.{answered}
-use Rattle.answers.specs.declared.Answered.{Answered}
-use Rattle.calls_cycles.specs.Cycles.{flushed, flushPendingWrites}
+use Rattle.answers.specs.declared.Applied.{Applied}
+use Rattle.answers.proofs.Replies.{counts}
+use Rattle.calls_cycles.specs.Cycles.{flushedPendingWrites}
+use Rattle.calls_cycles.proofs.Stepped.{flush-set, with-flush}
 use Rattle.steps_queue.specs.declared.FlushStep.{FlushStep}
-use Rattle.steps_queue.specs.QueueSteps.{flushLeaves, flushStep}
+use Rattle.steps_queue.specs.QueueSteps.{flushStep}
 use Rattle.c_record.specs.declared.Record.{Record}
 use Rattle.c_record.specs.declared.RecordDrum.{RecordDrum}
 use Rattle.c_record.specs.Record.{chipOf, coreOf, recordCore}
 use Rattle.c_record.proofs.Replies.{lent}
-use Rattle.c_told.specs.Told.{lentBack, told}
-use Rattle.c_calls.specs.Calls.{onRecord}
+use Rattle.c_told.specs.Told.{lentBack, toldCounts}
+use Rattle.c_calls.specs.Calls.{applyOn}
 use Rattle.c_steps.specs.RecordSteps.{settled}
 use Rattle.c_queue.specs.declared.RecordFlushed.{RecordFlushed}
 use Rattle.c_queue.specs.RecordQueue.{recordFlushed}
@@ -37,12 +35,12 @@ use Rattle.c_queue.proofs.RecordFlushed.Laws as step-laws
 abbrev pub parts : List (Part lent)
 parts = drum-a ∷ drum-b ∷ drum-c ∷ voice ∷ head ∷ count ∷ []
 
-abbrev pub reply : Reply parts u8f
+abbrev pub reply : Reply parts counts
 reply = record {
   name = step′.struct .name;
   D = RecordFlushed;
   gives = λ r. (r .a, (r .b, (r .c, (r .voice, (r .head, (r .count, tt))))));
-  answer = λ r. r .no;
+  answer = λ r. r .answer;
   to-one = step′.the-type .to-one;
 }
 
@@ -69,36 +67,21 @@ step s a = recordFlushed (a .1 .0) (a .1 .1 .0) (a .1 .1 .1 .0) (flushStep (a .0
 abbrev stored : Record → FlushStep → Record
 stored x f = puts parts (reply .gives (recordFlushed (x .core .a .drum) (x .core .b .drum) (x .core .c .drum) f)) x
 
--- a flush, by its cases
-abbrev flush-answer : Bool → Record → Answered
-flush-answer ok x = cond ok (answered accepted (flushed (chipOf x))) (answered outOfRange (chipOf x))
-
-abbrev flush-by : Bool → Record → FlushStep
-flush-by ok x = cond ok (flushLeaves (applyAll (waiting (x .queue)) (x .core .voice)) (emptied (x .queue)) accepted) (flushLeaves (x .core .voice) (x .queue) outOfRange)
-
-by-answers : (ok : Bool) (x : Record) → flush-by ok x .no ≡ flush-answer ok x .no
-by-answers true x = refl
-by-answers false x = refl
-
-by-leaves : (ok : Bool) (x : Record) → stored x (flush-by ok x) ≡ told x (flush-answer ok x) .chip
-unfolding lentBack settled coreOf recordCore
+-- the call on the chip is its step's (`flush-set`), and what the step leaves of the record is what the call tells
+by-leaves : (ok : Bool) (x : Record) → stored x (flushStep ok (x .core .voice) (x .queue)) ≡ toldCounts x (with-flush (flushStep ok (x .core .voice) (x .queue)) (chipOf x)) .chip
+unfolding flushStep lentBack settled coreOf recordCore
 by-leaves true x = refl
 by-leaves false x = refl
 
 abbrev flush-shown : Record → Queue → FlushStep
 flush-shown x q = flushStep (chipIn (chipOf x)) (x .core .voice) q
 
-flush-answers : (x : Record) → flush-shown x (x .queue) .no ≡ onRecord flushPendingWrites x .no
-unfolding flushStep flushPendingWrites
-flush-answers x = by-answers (chipIn (chipOf x)) x
-
-flush-leaves : (x : Record) → stored x (flush-shown x (x .queue)) ≡ onRecord flushPendingWrites x .chip
-unfolding flushStep flushPendingWrites
-flush-leaves x = by-leaves (chipIn (chipOf x)) x
-
-pub split : walk.Split stamps registers values parts reply (λ x. chipIn (chipOf x)) asks step (λ x. onRecord flushPendingWrites x .no) (λ x. onRecord flushPendingWrites x .chip)
+pub split : walk.Split stamps registers values parts reply (λ x. chipIn (chipOf x)) asks step (λ x. applyOn flushedPendingWrites x .answer) (λ x. applyOn flushedPendingWrites x .chip)
+unfolding coreOf
 split = record {
   asks = λ x is ok. subst QueueInRange (sym (same-ring (x .queue))) (passed (record-laid x is) ok .queue);
-  answers = λ x. ap (λ (q : Queue). flush-shown x q .no) (same-ring (x .queue)) ∙ flush-answers x;
-  leaves = λ x. ap (λ (q : Queue). stored x (flush-shown x q)) (same-ring (x .queue)) ∙ flush-leaves x;
+  answers = λ x. ap (λ (q : Queue). flush-shown x q .answer) (same-ring (x .queue)) ∙ ap (λ (r : Applied). r .answer) (flush-set (chipOf x));
+  leaves = λ x.
+      ap (λ (q : Queue). stored x (flush-shown x q)) (same-ring (x .queue)) ∙ by-leaves (chipIn (chipOf x)) x
+      ∙ ap (λ (r : Applied). toldCounts x r .chip) (flush-set (chipOf x));
 }

@@ -8,22 +8,24 @@ ghost use Rattle.refusals.specs.Numbers.{accepted};
 ghost use Rattle.c_record.specs.Record.{chipOf, drumOf};
 ghost use Rattle.c_making.specs.Making.{newRecord};
 ghost use Rattle.c_words.specs.Words.{nextBlock, nextWord};
-ghost use Rattle.c_calls.specs.Calls.{onRecord};
+ghost use Rattle.c_calls.specs.Calls.{applyOn, onRecord, writeOn};
 ghost use Rattle.calls_making.specs.Making.{fresh, resetCall, withClocks, withVariant};
-ghost use Rattle.calls_registers.specs.Stored.{dumpRegisters, loadRegisters, readRegister, writeRegister};
-ghost use Rattle.calls_ports.specs.Ports.{readPort, writePort, writePortImmediate};
-ghost use Rattle.calls_cycles.specs.Cycles.{cpuCycle, flushPendingWrites, pendingWriteCount, setCpuCycle, syncSampleCycle};
+ghost use Rattle.calls_registers.specs.Stored.{dumpRegisters, loadedRegisters, readRegister, wroteRegister};
+ghost use Rattle.calls_ports.specs.Ports.{readPort, writePort, wrotePortImmediate};
+ghost use Rattle.calls_cycles.specs.Cycles.{cpuCycle, flushedPendingWrites, pendingWriteCount, setCpuCycle, syncSampleCycle};
 ghost use Rattle.calls_effects.specs.Effects.{setTimerIrqState, triggerEnvelope};
 ghost use Rattle.calls_channels.specs.ChannelCalls.{getChannelOutputs, isChannelMuted, setChannelMute, setDrumSampleOverride};
 ghost use Rattle.calls_words.specs.Blocks.{blockBuffer};
 use answers::Byte;
 use answers::Bytes;
 use answers::Count;
+use answers::Counts;
 use answers::Cycle;
 use answers::Flag;
 use answers::Outputs;
 use answers::Played;
 use answers::Sample;
+use answers::Wrote;
 use c_record::Record;
 use c_record::RecordDrum;
 use c_record::Registers;
@@ -70,9 +72,9 @@ pub extern "C" fn ym2149_reset(chip: &mut Record) -> u8
 }
 
 #[no_mangle]
-pub extern "C" fn ym2149_write_register(chip: &mut Record, register: u8, value: u8) -> u8
-    ensures { λ r. ⌜ (r ≡ onRecord (writeRegister register value) (now (chip .entry)) .no)
-        × (now (chip .exit) ≡ onRecord (writeRegister register value) (now (chip .entry)) .chip) ⌝ }
+pub extern "C" fn ym2149_write_register(chip: &mut Record, register: u8, value: u8) -> Wrote
+    ensures { λ r. ⌜ (r ≡ writeOn (wroteRegister register value) (now (chip .entry)) .answer)
+        × (now (chip .exit) ≡ writeOn (wroteRegister register value) (now (chip .entry)) .chip) ⌝ }
 {
     let ok = lent_record::in_range(&*chip);
     let written = c_steps::write_register(
@@ -88,13 +90,13 @@ pub extern "C" fn ym2149_write_register(chip: &mut Record, register: u8, value: 
     chip.core.b.drum = written.b;
     chip.core.c.drum = written.c;
     chip.core.voice = written.voice;
-    written.no
+    written.answer
 }
 
 #[no_mangle]
-pub extern "C" fn ym2149_load_registers(chip: &mut Record, registers: Registers) -> u8
-    ensures { λ r. ⌜ (r ≡ onRecord (loadRegisters (registers .bytes)) (now (chip .entry)) .no)
-        × (now (chip .exit) ≡ onRecord (loadRegisters (registers .bytes)) (now (chip .entry)) .chip) ⌝ }
+pub extern "C" fn ym2149_load_registers(chip: &mut Record, registers: Registers) -> Counts
+    ensures { λ r. ⌜ (r ≡ applyOn (loadedRegisters (registers .bytes)) (now (chip .entry)) .answer)
+        × (now (chip .exit) ≡ applyOn (loadedRegisters (registers .bytes)) (now (chip .entry)) .chip) ⌝ }
 {
     let ok = lent_record::in_range(&*chip);
     let loaded = c_steps::load_registers(
@@ -109,7 +111,7 @@ pub extern "C" fn ym2149_load_registers(chip: &mut Record, registers: Registers)
     chip.core.b.drum = loaded.b;
     chip.core.c.drum = loaded.c;
     chip.core.voice = loaded.voice;
-    loaded.no
+    loaded.answer
 }
 
 #[no_mangle]
@@ -142,9 +144,9 @@ pub extern "C" fn ym2149_write_port(chip: &mut Record, port: u8, value: u8) -> u
 }
 
 #[no_mangle]
-pub extern "C" fn ym2149_write_port_immediate(chip: &mut Record, port: u8, value: u8) -> u8
-    ensures { λ r. ⌜ (r ≡ onRecord (writePortImmediate port value) (now (chip .entry)) .no)
-        × (now (chip .exit) ≡ onRecord (writePortImmediate port value) (now (chip .entry)) .chip) ⌝ }
+pub extern "C" fn ym2149_write_port_immediate(chip: &mut Record, port: u8, value: u8) -> Wrote
+    ensures { λ r. ⌜ (r ≡ writeOn (wrotePortImmediate port value) (now (chip .entry)) .answer)
+        × (now (chip .exit) ≡ writeOn (wrotePortImmediate port value) (now (chip .entry)) .chip) ⌝ }
 {
     let ok = lent_record::in_range(&*chip);
     let port_written = c_steps::write_port_immediate(
@@ -162,7 +164,7 @@ pub extern "C" fn ym2149_write_port_immediate(chip: &mut Record, port: u8, value
     chip.core.c.drum = port_written.c;
     chip.core.voice = port_written.voice;
     chip.core.selected = port_written.selected;
-    port_written.no
+    port_written.answer
 }
 
 #[no_mangle]
@@ -210,9 +212,9 @@ pub extern "C" fn ym2149_sync_sample_cycle(chip: &mut Record, cycle: u64) -> u8
 }
 
 #[no_mangle]
-pub extern "C" fn ym2149_flush_pending_writes(chip: &mut Record) -> u8
-    ensures { λ r. ⌜ (r ≡ onRecord flushPendingWrites (now (chip .entry)) .no)
-        × (now (chip .exit) ≡ onRecord flushPendingWrites (now (chip .entry)) .chip) ⌝ }
+pub extern "C" fn ym2149_flush_pending_writes(chip: &mut Record) -> Counts
+    ensures { λ r. ⌜ (r ≡ applyOn flushedPendingWrites (now (chip .entry)) .answer)
+        × (now (chip .exit) ≡ applyOn flushedPendingWrites (now (chip .entry)) .chip) ⌝ }
 {
     let ok = lent_record::in_range(&*chip);
     let flushed = c_queue::flush_pending_writes(
@@ -233,7 +235,7 @@ pub extern "C" fn ym2149_flush_pending_writes(chip: &mut Record) -> u8
     chip.core.voice = flushed.voice;
     chip.queue.head = flushed.head;
     chip.queue.count = flushed.count;
-    flushed.no
+    flushed.answer
 }
 
 #[no_mangle]

@@ -5,6 +5,6 @@ use Rattle.steps_queue.specs.declared.FlushStep.{FlushStep}
 use Rattle.c_steps.specs.RecordSteps.{settled}
 use Rattle.c_queue.specs.RecordQueue.{recordFlushed}
 
-pub record-left : (a b c : RecordDrum) {x y z : RecordDrum} {f s : FlushStep} → f ≡ s → x ≡ settled (f .no) a → y ≡ settled (f .no) b → z ≡ settled (f .no) c
-    → record { a = x; b = y; c = z; voice = f .voice; head = f .head; count = f .count; no = f .no } ≡ recordFlushed a b c s
+pub record-left : (a b c : RecordDrum) {x y z : RecordDrum} {f s : FlushStep} → f ≡ s → x ≡ settled (f .answer .no) a → y ≡ settled (f .answer .no) b → z ≡ settled (f .answer .no) c
+    → record { a = x; b = y; c = z; voice = f .voice; head = f .head; count = f .count; answer = f .answer } ≡ recordFlushed a b c s
 record-left a b c e ex ey ez = rw (ex, ey, ez, e)

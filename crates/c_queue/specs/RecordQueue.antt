@@ -7,11 +7,11 @@ use Rattle.c_queue.specs.declared.RecordFlushed.{RecordFlushed}
 abbrev pub recordFlushed : RecordDrum → RecordDrum → RecordDrum → FlushStep → RecordFlushed
 recordFlushed a b c f =
     record {
-      a = settled (f .no) a;
-      b = settled (f .no) b;
-      c = settled (f .no) c;
+      a = settled (f .answer .no) a;
+      b = settled (f .answer .no) b;
+      c = settled (f .answer .no) c;
       voice = f .voice;
       head = f .head;
       count = f .count;
-      no = f .no;
+      answer = f .answer;
     }

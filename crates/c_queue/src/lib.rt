@@ -5,10 +5,11 @@ ghost use mathlib.Core.Bool.{true};
 ghost use Rattle.queue.specs.Waiting.{QueueInRange, ring};
 ghost use Rattle.steps_queue.specs.QueueSteps.{flushStep};
 ghost use Rattle.c_queue.specs.RecordQueue.{recordFlushed};
+use answers::Counts;
 use c_record::RecordDrum;
 use registers::Voice;
 
-// The drums, the voice, the ring's place and its count to store, and the call's number.
+// The drums, the voice, the ring's place and its count to store, and the call's answer.
 pub struct RecordFlushed {
     pub a: RecordDrum,
     pub b: RecordDrum,
@@ -16,7 +17,7 @@ pub struct RecordFlushed {
     pub voice: Voice,
     pub head: usize,
     pub count: usize,
-    pub no: u8,
+    pub answer: Counts,
 }
 
 // The step of `steps_queue`; the ring is lent where it lies.
@@ -37,13 +38,14 @@ pub fn flush_pending_writes<'t>(
 {
     let r = steps_queue::flush_pending_writes(stamps, registers, values, ok, voice, head, count);
     let after = r.voice;
+    let answer = r.answer;
     RecordFlushed {
-        a: c_steps::settled(r.no, a),
-        b: c_steps::settled(r.no, b),
-        c: c_steps::settled(r.no, c),
+        a: c_steps::settled(answer.no, a),
+        b: c_steps::settled(answer.no, b),
+        c: c_steps::settled(answer.no, c),
         voice: after,
         head: r.head,
         count: r.count,
-        no: r.no,
+        answer,
     }
 }

@@ -14,11 +14,13 @@ use Rattle.steps_channels.specs.declared.Drummed.{Drummed}
 use Rattle.steps_channels.specs.declared.Muted.{Muted}
 use Rattle.steps_effects.specs.declared.Flagged.{Flagged}
 use Rattle.steps_effects.specs.declared.Triggered.{Triggered}
+use Rattle.steps_voice.specs.declared.Loaded.{Loaded}
 use Rattle.steps_voice.specs.declared.PortWritten.{PortWritten}
 use Rattle.steps_voice.specs.declared.Voiced.{Voiced}
 use Rattle.c_steps.specs.declared.RecordPort.{RecordPort}
 use Rattle.c_steps.specs.declared.RecordDrummed.{RecordDrummed}
 use Rattle.c_steps.specs.declared.RecordFlagged.{RecordFlagged}
+use Rattle.c_steps.specs.declared.RecordLoaded.{RecordLoaded}
 use Rattle.c_steps.specs.declared.RecordMuted.{RecordMuted}
 use Rattle.c_steps.specs.declared.RecordTriggered.{RecordTriggered}
 use Rattle.steps_ports.specs.declared.PortQueued.{PortQueued}
@@ -35,10 +37,23 @@ abbrev pub recordSynced : RecordDrum → RecordDrum → RecordDrum → Synced �
 recordSynced a b c s = record { a = settled (s .no) a; b = settled (s .no) b; c = settled (s .no) c; stamp = s .stamp; start = s .start; no = s .no }
 
 abbrev pub recordVoiced : RecordDrum → RecordDrum → RecordDrum → Voiced → RecordVoiced
-recordVoiced a b c v = record { a = settled (v .no) a; b = settled (v .no) b; c = settled (v .no) c; voice = v .voice; no = v .no }
+recordVoiced a b c v =
+    record { a = settled (v .answer .no) a; b = settled (v .answer .no) b; c = settled (v .answer .no) c; voice = v .voice; answer = v .answer }
+
+abbrev pub recordLoaded : RecordDrum → RecordDrum → RecordDrum → Loaded → RecordLoaded
+recordLoaded a b c l =
+    record { a = settled (l .answer .no) a; b = settled (l .answer .no) b; c = settled (l .answer .no) c; voice = l .voice; answer = l .answer }
 
 abbrev pub recordPort : RecordDrum → RecordDrum → RecordDrum → PortWritten → RecordPort
-recordPort a b c p = record { a = settled (p .no) a; b = settled (p .no) b; c = settled (p .no) c; voice = p .voice; selected = p .selected; no = p .no }
+recordPort a b c p =
+    record {
+      a = settled (p .answer .no) a;
+      b = settled (p .answer .no) b;
+      c = settled (p .answer .no) c;
+      voice = p .voice;
+      selected = p .selected;
+      answer = p .answer;
+    }
 
 abbrev pub recordFlagged : RecordDrum → RecordDrum → RecordDrum → Flagged → RecordFlagged
 recordFlagged a b c f = record { a = settled (f .no) a; b = settled (f .no) b; c = settled (f .no) c; generators = f .generators; irq = f .irq; no = f .no }

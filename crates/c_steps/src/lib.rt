@@ -2,14 +2,14 @@
 // level 0. `ok` is the test of the record. 01, "Registers and ports" and "Numbers a call can answer".
 ghost use mathlib.Core.Path.{_≡_};
 ghost use Rattle.steps_cycles.specs.CycleSteps.{bothSet, stampSet};
-ghost use Rattle.registers.specs.Registers.{applyRegister};
-ghost use Rattle.registers.specs.Writes.{loaded};
-ghost use Rattle.steps_voice.specs.VoiceSteps.{portWritten, voiced};
+ghost use Rattle.steps_voice.specs.VoiceSteps.{portWritten, voiced, voicedAll};
 ghost use Rattle.steps_effects.specs.EffectSteps.{flagSet, triggerSet};
 ghost use Rattle.steps_channels.specs.ChannelSteps.{drumsSet, mutesSet};
 ghost use Rattle.c_record.specs.Record.{drumOf};
 ghost use Rattle.steps_ports.specs.PortSteps.{portQueued};
-ghost use Rattle.c_steps.specs.RecordSteps.{recordDrummed, recordFlagged, recordMuted, recordPort, recordQueued, recordStamped, recordSynced, recordTriggered, recordVoiced, settled};
+ghost use Rattle.c_steps.specs.RecordSteps.{recordDrummed, recordFlagged, recordLoaded, recordMuted, recordPort, recordQueued, recordStamped, recordSynced, recordTriggered, recordVoiced, settled};
+use answers::Counts;
+use answers::Wrote;
 use c_record::RecordDrum;
 use c_record::Registers;
 use envelope::Envelope;
@@ -35,23 +35,31 @@ pub struct RecordSynced {
     pub no: u8,
 }
 
-// The drums and the voice to store, and the call's number.
+// The drums and the voice to store, and the call's answer.
 pub struct RecordVoiced {
     pub a: RecordDrum,
     pub b: RecordDrum,
     pub c: RecordDrum,
     pub voice: Voice,
-    pub no: u8,
+    pub answer: Wrote,
 }
 
-// The drums, the voice and the selection to store, and the call's number.
+pub struct RecordLoaded {
+    pub a: RecordDrum,
+    pub b: RecordDrum,
+    pub c: RecordDrum,
+    pub voice: Voice,
+    pub answer: Counts,
+}
+
+// The drums, the voice and the selection to store, and the call's answer.
 pub struct RecordPort {
     pub a: RecordDrum,
     pub b: RecordDrum,
     pub c: RecordDrum,
     pub voice: Voice,
     pub selected: u8,
-    pub no: u8,
+    pub answer: Wrote,
 }
 
 // The drums, the generators and the IRQ flag to store, and the call's number.
@@ -157,16 +165,17 @@ pub fn write_register(
     register: u8,
     value: u8,
 ) -> RecordVoiced
-    ensures { λ r. ⌜ r ≡ recordVoiced a b c (voiced ok voice (applyRegister register value voice)) ⌝ }
+    ensures { λ r. ⌜ r ≡ recordVoiced a b c (voiced ok register value voice) ⌝ }
 {
     let r = steps_voice::write_register(ok, voice, register, value);
     let after = r.voice;
+    let answer = r.answer;
     RecordVoiced {
-        a: settled(r.no, a),
-        b: settled(r.no, b),
-        c: settled(r.no, c),
+        a: settled(answer.no, a),
+        b: settled(answer.no, b),
+        c: settled(answer.no, c),
         voice: after,
-        no: r.no,
+        answer,
     }
 }
 
@@ -177,18 +186,19 @@ pub fn load_registers(
     c: RecordDrum,
     voice: Voice,
     registers: Registers,
-) -> RecordVoiced
-    ensures { λ r. ⌜ r ≡ recordVoiced a b c (voiced ok voice (loaded (registers .bytes) voice)) ⌝ }
+) -> RecordLoaded
+    ensures { λ r. ⌜ r ≡ recordLoaded a b c (voicedAll ok (registers .bytes) voice) ⌝ }
 {
     let bytes = registers.bytes;
     let r = steps_voice::load_registers(ok, voice, bytes);
     let after = r.voice;
-    RecordVoiced {
-        a: settled(r.no, a),
-        b: settled(r.no, b),
-        c: settled(r.no, c),
+    let answer = r.answer;
+    RecordLoaded {
+        a: settled(answer.no, a),
+        b: settled(answer.no, b),
+        c: settled(answer.no, c),
         voice: after,
-        no: r.no,
+        answer,
     }
 }
 
@@ -206,13 +216,14 @@ pub fn write_port_immediate(
 {
     let r = steps_voice::write_port_immediate(ok, voice, selected, port, value);
     let after = r.voice;
+    let answer = r.answer;
     RecordPort {
-        a: settled(r.no, a),
-        b: settled(r.no, b),
-        c: settled(r.no, c),
+        a: settled(answer.no, a),
+        b: settled(answer.no, b),
+        c: settled(answer.no, c),
         voice: after,
         selected: r.selected,
-        no: r.no,
+        answer,
     }
 }
 

@@ -3,7 +3,6 @@ use mathlib.Core.Path.{_≡_, refl, sym, ap, _∙_, subst}
 use mathlib.Core.Bool.{Bool, true}
 use mathlib.Core.List.{[], _∷_, List}
 use Prim.Native.Nat.{ℕ}
-use Rattle.laws.proofs.Flat.{u8f}
 use Rattle.lent_walks.proofs.Parts.{Part, Reply, FieldsFrom, kinds, offset}
 use Rattle.lent_walks.proofs.Ring as walk
 use Rattle.lent_chip.proofs.ChipParts.{count, head, registers, stamps, values, voice}
@@ -15,9 +14,9 @@ use Rattle.lent_chip.proofs.ShownRing.{ring-shown, same-ring}
 use Rattle.chip.specs.declared.Chip.{Chip}
 use Rattle.chip.specs.Range.{chipIn}
 use Rattle.chip.proofs.InRange.{passed}
-use Rattle.answers.specs.declared.Answered.{Answered}
-use Rattle.answers.proofs.Replies.{chip}
-use Rattle.calls_cycles.specs.Cycles.{flushPendingWrites}
+use Rattle.answers.specs.declared.Applied.{Applied}
+use Rattle.answers.proofs.Replies.{chip, counts}
+use Rattle.calls_cycles.specs.Cycles.{flushedPendingWrites}
 use Rattle.calls_cycles.proofs.Stepped.{flush-set, with-flush}
 use Rattle.steps_queue.specs.declared.FlushStep.{FlushStep}
 use Rattle.steps_queue.specs.QueueSteps.{flushStep}
@@ -28,8 +27,8 @@ use Rattle.steps_queue.proofs.FlushStep.Laws as step-laws
 abbrev pub parts : List (Part chip)
 parts = voice ∷ head ∷ count ∷ []
 
-abbrev pub reply : Reply parts u8f
-reply = record { name = step′.struct .name; D = FlushStep; gives = λ r. (r .voice, (r .head, (r .count, tt))); answer = λ r. r .no; to-one = step′.the-type .to-one }
+abbrev pub reply : Reply parts counts
+reply = record { name = step′.struct .name; D = FlushStep; gives = λ r. (r .voice, (r .head, (r .count, tt))); answer = λ r. r .answer; to-one = step′.the-type .to-one }
 
 pub laid : FieldsFrom reply 0 (kinds parts) (reply .gives)
 laid = ((λ r. record { offset = offset step-laws.mir 0; there = refl; is = refl }), ((λ r. record { offset = offset step-laws.mir 1; there = refl; is = refl }), ((λ r. record { offset = offset step-laws.mir 2; there = refl; is = refl }), (λ r. record { offset = offset step-laws.mir 3; there = refl; is = refl }))))
@@ -50,12 +49,12 @@ asks s a = a .0 ≡ true → QueueInRange (ring-of s a)
 abbrev pub step : Shown → Taken → FlushStep
 step s a = flushStep (a .0) (a .1 .0) (ring-of s a)
 
-stepped : (c : Chip) → with-flush (flushStep (chipIn c) (c .core .voice) (ring-shown (c .queue))) c ≡ flushPendingWrites c
+stepped : (c : Chip) → with-flush (flushStep (chipIn c) (c .core .voice) (ring-shown (c .queue))) c ≡ flushedPendingWrites c
 stepped c = ap (λ (q : Queue). with-flush (flushStep (chipIn c) (c .core .voice) q) c) (same-ring (c .queue)) ∙ flush-set c
 
-pub split : walk.Split stamps registers values parts reply chipIn asks step (λ c. flushPendingWrites c .no) (λ c. flushPendingWrites c .chip)
+pub split : walk.Split stamps registers values parts reply chipIn asks step (λ c. flushedPendingWrites c .answer) (λ c. flushedPendingWrites c .chip)
 split = record {
   asks = λ c is ok. subst QueueInRange (sym (same-ring (c .queue))) (passed (chip-laid c is) ok .queue);
-  answers = λ c. ap (λ (r : Answered). r .no) (stepped c);
-  leaves = λ c. ap (λ (r : Answered). r .chip) (stepped c);
+  answers = λ c. ap (λ (r : Applied). r .answer) (stepped c);
+  leaves = λ c. ap (λ (r : Applied). r .chip) (stepped c);
 }

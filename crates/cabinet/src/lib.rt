@@ -3,17 +3,19 @@
 // Calls that only read take `&Chip` and stand last.
 ghost use mathlib.Core.Path.{_≡_};
 ghost use Rattle.calls_making.specs.Making.{resetCall};
-ghost use Rattle.calls_registers.specs.Stored.{dumpRegisters, loadRegisters, readRegister, writeRegister};
-ghost use Rattle.calls_ports.specs.Ports.{readPort, writePort, writePortImmediate};
-ghost use Rattle.calls_cycles.specs.Cycles.{cpuCycle, flushPendingWrites, pendingWriteCount, setCpuCycle, syncSampleCycle};
+ghost use Rattle.calls_registers.specs.Stored.{dumpRegisters, loadedRegisters, readRegister, wroteRegister};
+ghost use Rattle.calls_ports.specs.Ports.{readPort, writePort, wrotePortImmediate};
+ghost use Rattle.calls_cycles.specs.Cycles.{cpuCycle, flushedPendingWrites, pendingWriteCount, setCpuCycle, syncSampleCycle};
 ghost use Rattle.calls_effects.specs.Effects.{setTimerIrqState, triggerEnvelope};
 ghost use Rattle.calls_channels.specs.ChannelCalls.{getChannelOutputs, isChannelMuted, setChannelMute, setDrumSampleOverride};
 use answers::Byte;
 use answers::Bytes;
 use answers::Count;
+use answers::Counts;
 use answers::Cycle;
 use answers::Flag;
 use answers::Outputs;
+use answers::Wrote;
 use channel::Drum;
 use chip::Chip;
 
@@ -25,24 +27,24 @@ pub fn reset(chip: &mut Chip) -> u8
     r.no
 }
 
-pub fn write_register(chip: &mut Chip, register: u8, value: u8) -> u8
-    ensures { λ r. ⌜ (r ≡ writeRegister register value (now (chip .entry)) .no)
-        × (now (chip .exit) ≡ writeRegister register value (now (chip .entry)) .chip) ⌝ }
+pub fn write_register(chip: &mut Chip, register: u8, value: u8) -> Wrote
+    ensures { λ r. ⌜ (r ≡ wroteRegister register value (now (chip .entry)) .answer)
+        × (now (chip .exit) ≡ wroteRegister register value (now (chip .entry)) .chip) ⌝ }
 {
     let ok = lent_chip::in_range(&*chip);
     let r = steps_voice::write_register(ok, chip.core.voice, register, value);
     chip.core.voice = r.voice;
-    r.no
+    r.answer
 }
 
-pub fn load_registers(chip: &mut Chip, bytes: [u8; 16]) -> u8
-    ensures { λ r. ⌜ (r ≡ loadRegisters bytes (now (chip .entry)) .no)
-        × (now (chip .exit) ≡ loadRegisters bytes (now (chip .entry)) .chip) ⌝ }
+pub fn load_registers(chip: &mut Chip, bytes: [u8; 16]) -> Counts
+    ensures { λ r. ⌜ (r ≡ loadedRegisters bytes (now (chip .entry)) .answer)
+        × (now (chip .exit) ≡ loadedRegisters bytes (now (chip .entry)) .chip) ⌝ }
 {
     let ok = lent_chip::in_range(&*chip);
     let r = steps_voice::load_registers(ok, chip.core.voice, bytes);
     chip.core.voice = r.voice;
-    r.no
+    r.answer
 }
 
 pub fn write_port(chip: &mut Chip, port: u8, value: u8) -> u8
@@ -67,15 +69,15 @@ pub fn write_port(chip: &mut Chip, port: u8, value: u8) -> u8
     r.no
 }
 
-pub fn write_port_immediate(chip: &mut Chip, port: u8, value: u8) -> u8
-    ensures { λ r. ⌜ (r ≡ writePortImmediate port value (now (chip .entry)) .no)
-        × (now (chip .exit) ≡ writePortImmediate port value (now (chip .entry)) .chip) ⌝ }
+pub fn write_port_immediate(chip: &mut Chip, port: u8, value: u8) -> Wrote
+    ensures { λ r. ⌜ (r ≡ wrotePortImmediate port value (now (chip .entry)) .answer)
+        × (now (chip .exit) ≡ wrotePortImmediate port value (now (chip .entry)) .chip) ⌝ }
 {
     let ok = lent_chip::in_range(&*chip);
     let r = steps_voice::write_port_immediate(ok, chip.core.voice, chip.core.selected, port, value);
     chip.core.voice = r.voice;
     chip.core.selected = r.selected;
-    r.no
+    r.answer
 }
 
 pub fn set_cpu_cycle(chip: &mut Chip, cycle: u64) -> u8
@@ -99,9 +101,9 @@ pub fn sync_sample_cycle(chip: &mut Chip, cycle: u64) -> u8
     both.no
 }
 
-pub fn flush_pending_writes(chip: &mut Chip) -> u8
-    ensures { λ r. ⌜ (r ≡ flushPendingWrites (now (chip .entry)) .no)
-        × (now (chip .exit) ≡ flushPendingWrites (now (chip .entry)) .chip) ⌝ }
+pub fn flush_pending_writes(chip: &mut Chip) -> Counts
+    ensures { λ r. ⌜ (r ≡ flushedPendingWrites (now (chip .entry)) .answer)
+        × (now (chip .exit) ≡ flushedPendingWrites (now (chip .entry)) .chip) ⌝ }
 {
     let ok = lent_chip::in_range(&*chip);
     let flushed = steps_queue::flush_pending_writes(
@@ -116,7 +118,7 @@ pub fn flush_pending_writes(chip: &mut Chip) -> u8
     chip.core.voice = flushed.voice;
     chip.queue.head = flushed.head;
     chip.queue.count = flushed.count;
-    flushed.no
+    flushed.answer
 }
 
 pub fn set_timer_irq_state(chip: &mut Chip, on: bool) -> u8

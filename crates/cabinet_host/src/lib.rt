@@ -3,13 +3,14 @@
 ghost use mathlib.Core.Path.{_≡_};
 ghost use lib.ListN.{length};
 ghost use Rattle.calls_making.specs.Making.{resetCall};
-ghost use Rattle.calls_registers.specs.Stored.{dumpRegisters, loadRegisters, readRegister, writeRegister};
-ghost use Rattle.calls_ports.specs.Ports.{readPort, writePort, writePortImmediate};
-ghost use Rattle.calls_cycles.specs.Cycles.{cpuCycle, flushPendingWrites, pendingWriteCount, setCpuCycle, syncSampleCycle};
+ghost use Rattle.calls_registers.specs.Stored.{dumpRegisters, loadedRegisters, readRegister, wroteRegister};
+ghost use Rattle.calls_ports.specs.Ports.{readPort, writePort, wrotePortImmediate};
+ghost use Rattle.calls_cycles.specs.Cycles.{cpuCycle, flushedPendingWrites, pendingWriteCount, setCpuCycle, syncSampleCycle};
 ghost use Rattle.calls_effects.specs.Effects.{setTimerIrqState, triggerEnvelope};
 ghost use Rattle.calls_channels.specs.ChannelCalls.{getChannelOutputs, isChannelMuted, setChannelMute, setDrumSampleOverride};
 ghost use Rattle.calls_words.specs.Blocks.{blockBuffer, blocked, sampled};
 use answers::Answered;
+use answers::Applied;
 use answers::Blocked;
 use answers::Byte;
 use answers::Bytes;
@@ -18,6 +19,7 @@ use answers::Cycle;
 use answers::Flag;
 use answers::Outputs;
 use answers::Sampled;
+use answers::Written;
 use channel::Drum;
 use chip::Chip;
 
@@ -28,18 +30,18 @@ pub fn reset(mut chip: Chip) -> Answered
     Answered { chip, no }
 }
 
-pub fn write_register(mut chip: Chip, register: u8, value: u8) -> Answered
-    ensures { λ r. ⌜ r ≡ writeRegister register value chip ⌝ }
+pub fn write_register(mut chip: Chip, register: u8, value: u8) -> Written
+    ensures { λ r. ⌜ r ≡ wroteRegister register value chip ⌝ }
 {
-    let no = cabinet::write_register(&mut chip, register, value);
-    Answered { chip, no }
+    let answer = cabinet::write_register(&mut chip, register, value);
+    Written { chip, answer }
 }
 
-pub fn load_registers(mut chip: Chip, bytes: [u8; 16]) -> Answered
-    ensures { λ r. ⌜ r ≡ loadRegisters bytes chip ⌝ }
+pub fn load_registers(mut chip: Chip, bytes: [u8; 16]) -> Applied
+    ensures { λ r. ⌜ r ≡ loadedRegisters bytes chip ⌝ }
 {
-    let no = cabinet::load_registers(&mut chip, bytes);
-    Answered { chip, no }
+    let answer = cabinet::load_registers(&mut chip, bytes);
+    Applied { chip, answer }
 }
 
 pub fn write_port(mut chip: Chip, port: u8, value: u8) -> Answered
@@ -49,11 +51,11 @@ pub fn write_port(mut chip: Chip, port: u8, value: u8) -> Answered
     Answered { chip, no }
 }
 
-pub fn write_port_immediate(mut chip: Chip, port: u8, value: u8) -> Answered
-    ensures { λ r. ⌜ r ≡ writePortImmediate port value chip ⌝ }
+pub fn write_port_immediate(mut chip: Chip, port: u8, value: u8) -> Written
+    ensures { λ r. ⌜ r ≡ wrotePortImmediate port value chip ⌝ }
 {
-    let no = cabinet::write_port_immediate(&mut chip, port, value);
-    Answered { chip, no }
+    let answer = cabinet::write_port_immediate(&mut chip, port, value);
+    Written { chip, answer }
 }
 
 pub fn set_cpu_cycle(mut chip: Chip, cycle: u64) -> Answered
@@ -70,11 +72,11 @@ pub fn sync_sample_cycle(mut chip: Chip, cycle: u64) -> Answered
     Answered { chip, no }
 }
 
-pub fn flush_pending_writes(mut chip: Chip) -> Answered
-    ensures { λ r. ⌜ r ≡ flushPendingWrites chip ⌝ }
+pub fn flush_pending_writes(mut chip: Chip) -> Applied
+    ensures { λ r. ⌜ r ≡ flushedPendingWrites chip ⌝ }
 {
-    let no = cabinet::flush_pending_writes(&mut chip);
-    Answered { chip, no }
+    let answer = cabinet::flush_pending_writes(&mut chip);
+    Applied { chip, answer }
 }
 
 pub fn set_timer_irq_state(mut chip: Chip, on: bool) -> Answered

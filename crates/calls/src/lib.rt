@@ -1,15 +1,19 @@
 // The chip as its users see it: the record and every call by value, under one name. Each call is proved in the crate it comes from.
 pub use answers::Answered;
+pub use answers::Applied;
 pub use answers::Blocked;
 pub use answers::Byte;
 pub use answers::Bytes;
 pub use answers::Count;
+pub use answers::Counts;
 pub use answers::Cycle;
 pub use answers::Flag;
 pub use answers::Outputs;
 pub use answers::Played;
 pub use answers::Sample;
 pub use answers::Sampled;
+pub use answers::Written;
+pub use answers::Wrote;
 pub use calls_channels::get_channel_outputs;
 pub use calls_channels::is_channel_muted;
 pub use calls_channels::set_channel_mute;

@@ -1,21 +1,26 @@
 -- The calls on stamps and the queue are what their steps make and answer of the chip's stamp, start, voice and ring. Assumes nothing.
 use mathlib.Core.Path.{_≡_, refl}
 use mathlib.Core.Bool.{Bool, true, false, cond}
+use mathlib.Core.List.{List}
 use Prim.Native.Nat.{ℕ}
 use Rattle.refusals.specs.Numbers.{accepted, outOfRange}
+use Rattle.registers.specs.Writes.{RegisterWrite}
+use Rattle.write_effects.specs.Effects.{changesIn, restartsIn}
 use Rattle.chip.specs.declared.Chip.{Chip}
 use Rattle.chip.specs.Range.{chipIn}
 use Rattle.queue.specs.Waiting.{emptied, ring, waiting}
-use Rattle.queue_flush.specs.Applied.{applyAll}
+use Rattle.queue_flush.specs.Applied.{applyAll, registerWrites}
 use Rattle.chip_parts.specs.Parts.{withQueue, withTimes, withVoice}
 use Rattle.answers.specs.Answers.{answered}
+use Rattle.answers.specs.Reports.{applied, bytesOf, counts}
 use Rattle.answers.specs.declared.Answered.{Answered}
+use Rattle.answers.specs.declared.Applied.{Applied}
 use Rattle.steps_cycles.specs.declared.Stamped.{Stamped}
 use Rattle.steps_cycles.specs.declared.Synced.{Synced}
 use Rattle.steps_cycles.specs.CycleSteps.{bothSet, countSaid, cycleSaid, stamped, stampSet, synced}
 use Rattle.steps_queue.specs.declared.FlushStep.{FlushStep}
 use Rattle.steps_queue.specs.QueueSteps.{flushLeaves, flushStep}
-use Rattle.calls_cycles.specs.Cycles.{cpuCycle, flushed, flushPendingWrites, pendingWriteCount, setCpuCycle, syncSampleCycle}
+use Rattle.calls_cycles.specs.Cycles.{cpuCycle, flushed, flushedPendingWrites, flushPendingWrites, pendingWriteCount, setCpuCycle, syncSampleCycle}
 
 -- the chip after a step, and its number
 abbrev pub with-stamp : Stamped → Chip → Answered
@@ -41,16 +46,22 @@ unfolding bothSet syncSampleCycle
 both-set n c = both-same (chipIn c) n c
 
 -- the slots are as they were
-abbrev pub with-flush : FlushStep → Chip → Answered
-with-flush r c = answered (r .no) (withQueue (ring (c .queue .stamps) (c .queue .registers) (c .queue .values) (r .head) (r .count)) (withVoice (r .voice) c))
+abbrev pub with-flush : FlushStep → Chip → Applied
+with-flush r c =
+    record {
+      chip = withQueue (ring (c .queue .stamps) (c .queue .registers) (c .queue .values) (r .head) (r .count)) (withVoice (r .voice) c);
+      answer = r .answer;
+    }
 
-flush-same : (ok : Bool) (c : Chip) → with-flush (cond ok (flushLeaves (applyAll (waiting (c .queue)) (c .core .voice)) (emptied (c .queue)) accepted) (flushLeaves (c .core .voice) (c .queue) outOfRange)) c ≡ cond ok (answered accepted (flushed c)) (answered outOfRange c)
-flush-same true c = refl
-flush-same false c = refl
+flush-same : (ok : Bool) (c : Chip) (writes : List RegisterWrite)
+    → with-flush (cond ok (flushLeaves (applyAll (waiting (c .queue)) (c .core .voice)) (emptied (c .queue)) (counts accepted (changesIn writes (bytesOf c)) (restartsIn writes))) (flushLeaves (c .core .voice) (c .queue) (counts outOfRange 0 0))) c
+    ≡ applied writes c (cond ok (answered accepted (flushed c)) (answered outOfRange c))
+flush-same true c writes = refl
+flush-same false c writes = refl
 
-pub flush-set : (c : Chip) → with-flush (flushStep (chipIn c) (c .core .voice) (c .queue)) c ≡ flushPendingWrites c
-unfolding flushStep flushPendingWrites
-flush-set c = flush-same (chipIn c) c
+pub flush-set : (c : Chip) → with-flush (flushStep (chipIn c) (c .core .voice) (c .queue)) c ≡ flushedPendingWrites c
+unfolding flushStep flushPendingWrites flushedPendingWrites
+flush-set c = flush-same (chipIn c) c (registerWrites (waiting (c .queue)))
 
 pub cycle-said : (c : Chip) → cycleSaid (chipIn c) (c .core .stamp) ≡ cpuCycle c
 unfolding cycleSaid cpuCycle

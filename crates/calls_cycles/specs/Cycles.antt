@@ -3,11 +3,13 @@ use Prim.Native.Nat.{ℕ}
 use mathlib.Core.Bool.{cond}
 use Rattle.answers.specs.Answers.{does}
 use Rattle.chip_parts.specs.Parts.{onVoice, withQueue, withTimes}
+use Rattle.answers.specs.Reports.{applied}
 use Rattle.answers.specs.declared.Answered.{Answered}
+use Rattle.answers.specs.declared.Applied.{Applied}
 use Rattle.answers.specs.declared.Count.{Count}
 use Rattle.answers.specs.declared.Cycle.{Cycle}
 use Rattle.chip.specs.declared.Chip.{Chip}
-use Rattle.queue_flush.specs.Applied.{applyAll}
+use Rattle.queue_flush.specs.Applied.{applyAll, registerWrites}
 use Rattle.queue.specs.Waiting.{emptied, waiting}
 use Rattle.chip.specs.Range.{chipIn}
 use Rattle.refusals.specs.Numbers.{accepted, outOfRange}
@@ -28,6 +30,10 @@ flushed c = withQueue (emptied (c .queue)) (onVoice (applyAll (waiting (c .queue
 
 unfoldable pub flushPendingWrites : Chip → Answered
 flushPendingWrites c = does flushed c
+
+-- All that waited, counted. 02, request 03.
+unfoldable pub flushedPendingWrites : Chip → Applied
+flushedPendingWrites c = applied (registerWrites (waiting (c .queue))) c (flushPendingWrites c)
 
 -- the waiting count is the list's length (`length-waiting`)
 unfoldable pub pendingWriteCount : Chip → Count

@@ -1,7 +1,8 @@
 // Stamps, the next word's start, and the queue. 01, "Registers and ports".
 ghost use mathlib.Core.Path.{_≡_};
-ghost use Rattle.calls_cycles.specs.Cycles.{cpuCycle, flushPendingWrites, pendingWriteCount, setCpuCycle, syncSampleCycle};
+ghost use Rattle.calls_cycles.specs.Cycles.{cpuCycle, flushedPendingWrites, pendingWriteCount, setCpuCycle, syncSampleCycle};
 use answers::Answered;
+use answers::Applied;
 use answers::Count;
 use answers::Cycle;
 use chip::Chip;
@@ -42,8 +43,8 @@ pub fn sync_sample_cycle(chip: Chip, cycle: u64) -> Answered
     }
 }
 
-pub fn flush_pending_writes(chip: Chip) -> Answered
-    ensures { λ r. ⌜ r ≡ flushPendingWrites chip ⌝ }
+pub fn flush_pending_writes(chip: Chip) -> Applied
+    ensures { λ r. ⌜ r ≡ flushedPendingWrites chip ⌝ }
 {
     let ok = chip::in_range(chip);
     let ring = chip.queue;
@@ -63,9 +64,10 @@ pub fn flush_pending_writes(chip: Chip) -> Answered
     queue.head = r.head;
     queue.count = r.count;
     let after = Chip { core, queue };
-    Answered {
+    let answer = r.answer;
+    Applied {
         chip: after,
-        no: r.no,
+        answer,
     }
 }
 

@@ -1,9 +1,10 @@
 // The ports. 01, "Registers and ports".
 ghost use mathlib.Core.Path.{_≡_};
-ghost use Rattle.calls_ports.specs.Ports.{queued, readPort, writePort, writePortImmediate};
+ghost use Rattle.calls_ports.specs.Ports.{queued, readPort, writePort, wrotePortImmediate};
 ghost use Rattle.chip_parts.specs.Parts.{withSelection};
 use answers::Answered;
 use answers::Byte;
+use answers::Written;
 use chip::Chip;
 use queue::Pushed;
 use queue::Write;
@@ -37,15 +38,16 @@ pub fn write_port(chip: Chip, port: u8, value: u8) -> Answered
     queued(chip, chip.queue.push(write))
 }
 
-pub fn write_port_immediate(chip: Chip, port: u8, value: u8) -> Answered
-    ensures { λ r. ⌜ r ≡ writePortImmediate port value chip ⌝ }
+pub fn write_port_immediate(chip: Chip, port: u8, value: u8) -> Written
+    ensures { λ r. ⌜ r ≡ wrotePortImmediate port value chip ⌝ }
 {
     let ok = chip::in_range(chip);
     let r = steps_voice::write_port_immediate(ok, chip.core.voice, chip.core.selected, port, value);
     let after = with_selection(chip_parts::with_voice(chip, r.voice), r.selected);
-    Answered {
+    let answer = r.answer;
+    Written {
         chip: after,
-        no: r.no,
+        answer,
     }
 }
 

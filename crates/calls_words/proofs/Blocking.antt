@@ -9,7 +9,7 @@ use Rattle.queue.specs.Waiting.{ring}
 use Rattle.chip.specs.declared.Chip.{Chip}
 use Rattle.chip.specs.Range.{chipIn}
 use Rattle.answers.specs.declared.Blocked.{Blocked}
-use Rattle.clocking_block.specs.Block.{chipWith, ticksOf}
+use Rattle.clocking_block.specs.Block.{chipWith}
 use Rattle.clocking_block.proofs.Slots.{slots-stay}
 use Rattle.steps_blocks.specs.declared.BlockStep.{BlockStep}
 use Rattle.steps_blocks.specs.BlockSteps.{blockStep, bufferLeft, numberOf, playedBlock, refusedBlock}
@@ -25,7 +25,7 @@ blockedBy s c = record { chip = storedBlock s c; answer = s .answer }
 by-cases : (n : ℕ) (c : Chip) (ok soon : Bool) (number : ℕ)
     → blockedBy (cond ok (cond soon (playedBlock n c) (refusedBlock number c)) (refusedBlock outOfRange c)) c
     ≡ cond ok (cond soon (blockPlayed n c) (blockRefused number c)) (blockRefused outOfRange c)
-by-cases n c true true number = ap (λ (d : Chip). record { chip = d; answer = record { no = accepted; words = n; ticks = ticksOf n c } }) (slots-stay n c)
+by-cases n c true true number = ap (λ (d : Chip). record { chip = d; answer = blockPlayed n c .answer }) (slots-stay n c)
 by-cases n c true false number = refl
 by-cases n c false soon number = refl
 

@@ -36,7 +36,7 @@ pub fn block(chip: Chip, out: &mut [u16]) -> Blocked
     }
 }
 
-// The pre-filter word and its ticks. It answers as a block of one does, and does not go through the block's loop.
+// The pre-filter word, its ticks and what its writes changed. It answers as a block of one does, and does not go through the block's loop.
 pub fn compute_next_sample(chip: Chip) -> Sampled
     ensures { λ r. ⌜ r ≡ sampled chip ⌝ }
 {
@@ -74,7 +74,7 @@ pub fn compute_next_sample(chip: Chip) -> Sampled
     }
 }
 
-// Nothing changes, 0 words, 0 ticks.
+// Nothing changes: 0 words, 0 ticks, 0 and 0.
 pub fn refused(chip: Chip, number: u8) -> Blocked
     ensures { λ r. ⌜ r ≡ blockRefused number chip ⌝ }
 {
@@ -82,6 +82,8 @@ pub fn refused(chip: Chip, number: u8) -> Blocked
         no: number,
         words: 0,
         ticks: 0,
+        changed: 0,
+        restarted: 0,
     };
     Blocked { chip, answer }
 }

@@ -11,6 +11,8 @@ use Rattle.mixer.specs.Mix.{mixed}
 use Rattle.registers.specs.declared.Voice.{Voice}
 use Rattle.registers.specs.Registers.{byteAt, withGenerators}
 use Rattle.queue.specs.declared.Queue.{Queue}
+use Rattle.queue.specs.declared.Write.{Write}
+use Rattle.queue.specs.Waiting.{due, waiting}
 use Rattle.queue_drain.specs.Drain.{AfterDrain, drain}
 use Rattle.chip.specs.declared.Core.{Core}
 use Rattle.clocking_ticks.specs.declared.Ran.{Ran}
@@ -21,6 +23,10 @@ use Rattle.clocking_ticks.specs.Ticks.{ticked}
 -- A word: its end is start plus (4 × master / rate, rounded down), and that end is the next word's start.
 abbrev pub endOf : Core → ℕ
 endOf c = c .start + c .clocks .cycles
+
+-- the writes that a word applies
+abbrev pub appliedBy : Core → Queue → List Write
+appliedBy c q = due (endOf c) (waiting q)
 
 -- Waiting writes are applied from the front while their stamp is at most that end; the first later one stops it.
 unfoldable pub drained : Core → Queue → AfterDrain

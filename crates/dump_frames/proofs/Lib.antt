@@ -1,1 +1,3 @@
+pub mod Loading
+pub mod Few
 pub mod Playing

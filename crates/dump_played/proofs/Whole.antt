@@ -29,7 +29,7 @@ use Rattle.block_limits.specs.Limits.{blockNumber}
 use Rattle.laws_in_range.proofs.Parts.{voice-kept}
 use Rattle.laws_in_range.proofs.CallsInRange.{with-clocks-kept, words-kept}
 use Rattle.dump_writes.specs.Writes.{frameWrites}
-use Rattle.dump_frames.specs.Frame.{frameChip, framePlayed, frameBuffer}
+use Rattle.dump_frames.specs.Frame.{frameChip, framePlayed, frameBuffer, together}
 use Rattle.dump_played.specs.Whole.{framePlace, valueOf, chipBefore, frameWords}
 
 -- a frame's writes keep the chip in range, its clocks and its start
@@ -136,7 +136,7 @@ module _ (t : List ℕ) (ok : verdictOf t .no ≡ 0) (f : ℕ) (h : f < verdictO
       rw (le-ltb 65536 n l, lt-leb (2 ^ 64) _ soon)
 
   -- frame f is accepted, and leaves the chip before the next
-  pub plays : framePlayed (valueOf t f) n c ≡ blockPlayed n d
+  pub plays : framePlayed (valueOf t f) n c ≡ together (frameWrites (valueOf t f)) c (blockPlayed n d)
   unfolding framePlayed blocked
   plays = rw (passes (before t f .range), good, passes (frame-kept (valueOf t f) (before t f .range)), number)
 

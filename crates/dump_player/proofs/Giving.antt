@@ -8,16 +8,21 @@ use borrow.Author.Tests.{le-leb, lt-ltb, ltb-true, eq-eqb, ne-eqb}
 use lib.Dec.{ltb}
 use lib.ListN.{length}
 use Rattle.laws.proofs.Tests.{on-true, on-false, on-lt, on-ge}
-use Rattle.text_lines.specs.Lines.{lineAt}
+use Rattle.text_lines.specs.Bytes.{bytes}
+use Rattle.text_lines.specs.Lines.{lineAt, valueAt}
 use Rattle.text_lines.specs.declared.Line.{Line}
 use Rattle.text_put.specs.Text.{overlaid, laid, placeAfter}
 use Rattle.text_put.proofs.Laying.{laid-over, place-over, over-none}
 use Rattle.clocking_block.specs.Block.{wordsOf}
 use Rattle.clocking_block.proofs.Joined.{words-long}
 use Rattle.answers.specs.declared.Answered.{Answered}
+use Rattle.answers.specs.declared.Applied.{Applied}
+use Rattle.answers.proofs.Laws.{of-some}
 use Rattle.answers.specs.declared.Blocked.{Blocked}
 use Rattle.calls_words.specs.Blocks.{blocked, blockBuffer}
 use Rattle.calls_words.proofs.Accepted.{buffer-words}
+use Rattle.dump_frames.specs.Frame.{frameReported}
+use Rattle.dump_frames.proofs.Loading.{reported-is}
 use Rattle.dump_output.specs.Printed.{firstLine}
 use Rattle.dump_output.proofs.Saying.{first-few}
 use Rattle.dump_words.specs.Words.{linesOf, wordsLaid, wordsPlace}
@@ -69,15 +74,25 @@ module _ (p : Player) (out words : List ℕ) (n : length words ≡ wordsFor (len
       let k-is : k ≡ length (linesOf (wordsOf m (p .chip))) = (rw room at f) ∙ o ∙ ap (λ (l : List ℕ). length (linesOf l)) is in
       (rw (q, k-is, same, h, n), rw q ((rw (room, is) at g)))
 
--- a frame begins
-pub frame-not : (text : List ℕ) (p : Player) {l : Answered} → l ≡ loadedFrom text p → (l .no ≡ 0 → ⊥) → p ≡ frameBegun text p
-unfolding frameBegun
-frame-not text p e z = rw (ne-eqb (loadedFrom text p .no) 0 (λ y. z (rw e y)))
+-- a frame begins: what its load reports has the number and the chip of the load
+module _ (text : List ℕ) (p : Player) {l : Applied} (e : l ≡ frameReported (valueAt (bytes "regs=") text (p .at)) (p .chip)) where
+  load-is : of-some l ≡ loadedFrom text p
+  load-is = rw e (sym (reported-is _ (p .chip)))
 
-pub frame-begins : (text : List ℕ) (p : Player) {l : Answered} → l ≡ loadedFrom text p → l .no ≡ 0 → {x : Line} → x ≡ lineAt text (p .at)
-    → {g : Progress} → g ≡ frameBegins (p .verdict .words) (p .progress) → record { verdict = p .verdict; at = x .next; chip = l .chip; progress = g } ≡ frameBegun text p
-unfolding frameBegun
-frame-begins text p e z f h = rw (eq-eqb (loadedFrom text p .no) 0 (rw e at z), e, f, h)
+  number : l .answer .no ≡ loadedFrom text p .no
+  number = ap (λ (a : Answered). a .no) load-is
+
+  chip : l .chip ≡ loadedFrom text p .chip
+  chip = ap (λ (a : Answered). a .chip) load-is
+
+  pub frame-not : (l .answer .no ≡ 0 → ⊥) → p ≡ frameBegun text p
+  unfolding frameBegun
+  frame-not z = rw (ne-eqb (loadedFrom text p .no) 0 (λ y. z (number ∙ y)))
+
+  pub frame-begins : l .answer .no ≡ 0 → {x : Line} → x ≡ lineAt text (p .at) → {g : Progress} → g ≡ frameBegins (p .verdict .words) (p .progress)
+      → record { verdict = p .verdict; at = x .next; chip = l .chip; progress = g } ≡ frameBegun text p
+  unfolding frameBegun
+  frame-begins z f h = rw (eq-eqb (loadedFrom text p .no) 0 (sym number ∙ z), chip, f, h)
 
 not-left : (t s : Bool) → cond t false s ≡ true → s ≡ true
 not-left true s e = let z : false ≡ true = e in cc

@@ -100,7 +100,7 @@ fn begin_frame(player: Player, text: &[u8]) -> Player
     let verdict = player.verdict;
     let chip = player.chip;
     let loaded = dump_frames::load_frame(chip, text, player.at);
-    if loaded.no != refusals::ACCEPTED {
+    if loaded.answer.no != refusals::ACCEPTED {
         return player;
     }
     let line = text_lines::line_at(text, player.at);

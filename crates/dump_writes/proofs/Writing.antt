@@ -15,27 +15,28 @@ use Rattle.dump_writes.specs.Writes.{registersWritten, frameWrites}
 abbrev pub first : ℕ → List ℕ → Voice → Voice
 first n value v = appliedInOrder (registersFrom n 0 (hexByte value)) v
 
+module _ (value : List ℕ) where
+  pub ff-written : hexByte value 13 ≡ 255 → 13 ≡ registersWritten value
+  unfolding registersWritten
+  ff-written e = on-eq (hexByte value 13) 255 13 13 14 e refl
+
+  pub other-written : (hexByte value 13 ≡ 255 → ⊥) → 14 ≡ registersWritten value
+  unfolding registersWritten
+  other-written n = on-ne (hexByte value 13) 255 14 13 14 n refl
+
 -- R0 to R12, and R13 behind them
 module _ (value : List ℕ) (v : Voice) where
   pub fourteen : first 14 value v ≡ applyRegister 13 (hexByte value 13) (first 13 value v)
   unfolding registersFrom appliedInOrder
   fourteen = refl
 
-  ff-written : hexByte value 13 ≡ 255 → 13 ≡ registersWritten value
-  unfolding registersWritten
-  ff-written e = on-eq (hexByte value 13) 255 13 13 14 e refl
-
-  other-written : (hexByte value 13 ≡ 255 → ⊥) → 14 ≡ registersWritten value
-  unfolding registersWritten
-  other-written n = on-ne (hexByte value 13) 255 14 13 14 n refl
-
   pub of-ff : hexByte value 13 ≡ 255 → appliedInOrder (frameWrites value) v ≡ first 13 value v
   unfolding frameWrites
-  of-ff e = rw (← ff-written e)
+  of-ff e = rw (← ff-written value e)
 
   pub of-other : (hexByte value 13 ≡ 255 → ⊥) → appliedInOrder (frameWrites value) v ≡ applyRegister 13 (hexByte value 13) (first 13 value v)
   unfolding frameWrites
-  of-other n = rw (← other-written n, fourteen)
+  of-other n = rw (← other-written value n, fourteen)
 
 -- what is left to write gives R0 to R12
 pub record Writing (value bytes : List ℕ) (v₀ v : Voice) (i : ℕ) : Type 0 where

@@ -1,4 +1,4 @@
-// What a frame of a dump writes. 01, "The dump player", as request 02 amends it.
+// What a frame of a dump writes. 01, "The dump player", as request 02 amends it; 02, request 03.
 ghost use mathlib.Core.Bool.{true};
 ghost use mathlib.Core.Path.{_≡_};
 ghost use Prim.Native.Nat.{ℕ, _<_};
@@ -6,6 +6,7 @@ ghost use lib.ListN.{getD};
 ghost use Rattle.text_fields.specs.Fields.{hexByte};
 ghost use Rattle.dump_lines.specs.OneLine.{isFrame};
 ghost use Rattle.registers.specs.Writes.{appliedInOrder};
+ghost use Rattle.write_effects.specs.Effects.{restartsIn};
 ghost use Rattle.dump_writes.specs.Writes.{frameWrites};
 use registers::Voice;
 
@@ -27,6 +28,17 @@ pub fn write_frame(voice: Voice, value: &[u8]) -> Voice
         return next;
     }
     next.apply_register(13, bytes[13])
+}
+
+// How many of its writes restart the envelope: none where R13's byte is ff.
+pub fn restarts(value: &[u8]) -> u32
+    requires { ⌜ isFrame (now value) ≡ true ⌝ }
+    ensures { λ r. ⌜ r ≡ restartsIn (frameWrites (now (value .entry))) ⌝ }
+{
+    if text_fields::hex_byte(value, 13) == 0xff {
+        return 0;
+    }
+    1
 }
 
 fn bytes_of(value: &[u8]) -> [u8; 14]

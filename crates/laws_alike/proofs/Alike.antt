@@ -11,9 +11,9 @@ use Rattle.answers.specs.declared.Answered.{Answered}
 use Rattle.answers.specs.declared.Blocked.{Blocked}
 use Rattle.calls_making.specs.Making.{madeOf, defaultVariant, withVariant}
 use Rattle.variants.specs.Variants.{makingNo}
-use Rattle.calls_registers.specs.Stored.{dumpRegisters, readRegister}
-use Rattle.calls_ports.specs.Ports.{readPort}
-use Rattle.calls_cycles.specs.Cycles.{cpuCycle, pendingWriteCount}
+use Rattle.calls_registers.specs.Stored.{dumpRegisters, loadedRegisters, readRegister, wroteRegister}
+use Rattle.calls_ports.specs.Ports.{readPort, wrotePortImmediate}
+use Rattle.calls_cycles.specs.Cycles.{cpuCycle, flushedPendingWrites, pendingWriteCount}
 use Rattle.calls_channels.specs.ChannelCalls.{isChannelMuted}
 use Rattle.calls_words.specs.Blocks.{blocked}
 use Rattle.laws_in_range.proofs.CallsInRange.{with-variant-kept}
@@ -21,7 +21,7 @@ use Rattle.laws_promises.specs.History.{Call, answers, after, Ledger, emptyLedg
 use Rattle.laws_promises.proofs.DemandKept.{in-range}
 use Rattle.laws_alike.specs.Claims.{shared, sharedLedger, AnswerAlike, Alike, AllAlike}
 use Rattle.laws_alike.proofs.Words.{alike-by}
-use Rattle.laws_alike.proofs.Reading.{either, register-shared, registers-shared, port-shared, cycle-shared, waiting-shared, muted-shared}
+use Rattle.laws_alike.proofs.Reading.{either, register-shared, registers-shared, port-shared, cycle-shared, waiting-shared, muted-shared, wrote-shared, loaded-shared, wrote-port-shared, flushed-shared}
 use Rattle.laws_alike.proofs.Steps.{sharedAnswer, sharedBlock, block-shared, answer-shared}
 use Rattle.laws_alike.proofs.Ledgers.{enters-alike}
 
@@ -62,6 +62,13 @@ module _ {c d : Chip} {l m : Ledger} (p : Pair c d l m) where
         block = λ n.
             ap (λ (b : Blocked). b .answer)
             (alike-by (λ (y : Chip). sharedBlock (blocked n y)) (block-shared (p .left) n) (block-shared (p .right) n) (p .chip));
+        wrote = λ n x.
+            alike-by (λ (y : Chip). wroteRegister n x y .answer) (wrote-shared (p .left) n x) (wrote-shared (p .right) n x) (p .chip);
+        loaded = λ bytes.
+            alike-by (λ (y : Chip). loadedRegisters bytes y .answer) (loaded-shared (p .left) bytes) (loaded-shared (p .right) bytes) (p .chip);
+        wrote-port = λ n x.
+            alike-by (λ (y : Chip). wrotePortImmediate n x y .answer) (wrote-port-shared (p .left) n x) (wrote-port-shared (p .right) n x) (p .chip);
+        flushed = alike-by (λ (y : Chip). flushedPendingWrites y .answer) (flushed-shared (p .left)) (flushed-shared (p .right)) (p .chip);
         register = λ n. alike-by (readRegister n) (register-shared (p .left) n) (register-shared (p .right) n) (p .chip);
         registers = alike-by dumpRegisters (registers-shared (p .left)) (registers-shared (p .right)) (p .chip);
         port = λ n. alike-by (readPort n) (port-shared (p .left) n) (port-shared (p .right) n) (p .chip);

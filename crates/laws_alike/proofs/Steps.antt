@@ -1,6 +1,6 @@
 -- Each call leaves of a chip in range, but for what is not shared, what it leaves of what the chip shares, and answers its number. Assumes nothing.
 use mathlib.Core.Bool.{Bool, cond}
-use mathlib.Core.Path.{_≡_, refl, ap, ap₂}
+use mathlib.Core.Path.{_≡_, refl, ap}
 use Prim.Native.Nat.{ℕ, zero, suc, _%_}
 use native.Mathlib.Omega.{arith}
 use borrow.Author.Tests.{ne-eqb}
@@ -13,7 +13,9 @@ use Rattle.three_channels.specs.Channels.{channelAt, putChannel, onChannel, set
 use Rattle.registers.specs.declared.Voice.{Voice}
 use Rattle.registers.specs.Registers.{applyRegister}
 use Rattle.registers.specs.Writes.{loaded}
+use Rattle.write_effects.specs.Effects.{changesIn, restartsIn}
 use Rattle.queue.specs.Waiting.{push}
+use Rattle.queue_flush.specs.Applied.{registerWrites}
 use Rattle.chip.specs.declared.Chip.{Chip}
 use Rattle.chip.proofs.InRange.{InRange, passes}
 use Rattle.chip_parts.specs.Parts.{onVoice, withChannels, withSelection, withTimes}
@@ -25,6 +27,7 @@ use Rattle.answers.specs.declared.Count.{Count}
 use Rattle.answers.specs.declared.Cycle.{Cycle}
 use Rattle.answers.specs.declared.Flag.{Flag}
 use Rattle.answers.specs.Answers.{answered, unless22, does}
+use Rattle.answers.specs.Reports.{bytesOf}
 use Rattle.calls_making.specs.Making.{resetOf, resetCall}
 use Rattle.calls_registers.specs.Stored.{loadRegisters, writeRegister}
 use Rattle.calls_ports.specs.Ports.{bit1Clear, queued, stamped, writePort, writePortImmediate}
@@ -35,7 +38,7 @@ use Rattle.calls_words.specs.Blocks.{blockNo, blockPlayed, blocked, sampled}
 use Rattle.laws_promises.specs.History
 use Rattle.laws_promises.specs.History.{Call, answers}
 use Rattle.laws_alike.specs.Claims.{shared}
-use Rattle.laws_alike.proofs.Words.{words-alike, ticks-alike}
+use Rattle.laws_alike.proofs.Words.{applied-alike, words-alike, ticks-alike}
 use Rattle.laws_alike.proofs.Reading.{shared-range, either, register-shared, registers-shared, port-shared, cycle-shared, waiting-shared, muted-shared}
 
 -- the number of an answer, and what is shared of its chip
@@ -88,9 +91,18 @@ module _ {c : Chip} (h : InRange c) where
   pub block-shared : (n : ℕ) → sharedBlock (blocked n c) ≡ sharedBlock (blocked n (shared c))
   unfolding blocked
   block-shared n =
+      let writes = ap registerWrites (applied-alike n c (shared c) refl) in
       let played : sharedBlock (blockPlayed n c) ≡ sharedBlock (blockPlayed n (shared c))
-      = ap₂ (λ (d : Chip) (ticks : ℕ). record { chip = d; answer = record { no = accepted; words = n; ticks = ticks } })
-      (words-alike n c (shared c) refl) (ticks-alike n c (shared c) refl)
+      = λ i. record {
+        chip = words-alike n c (shared c) refl i;
+        answer = record {
+          no = accepted;
+          words = n;
+          ticks = ticks-alike n c (shared c) refl i;
+          changed = changesIn (writes i) (bytesOf c);
+          restarted = restartsIn (writes i);
+        };
+      }
       in
       rw (passes h, passes (shared-range h)) (either sharedBlock (eqb (blockNo n c) accepted) _ _ _ _ played refl)
 

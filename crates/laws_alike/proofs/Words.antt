@@ -1,6 +1,6 @@
 -- A word reads neither the variant nor what a channel last gave, but for its value and what the channels give. Assumes nothing.
 use mathlib.Core.Bool.{Bool}
-use mathlib.Core.List.{_∷_, map}
+use mathlib.Core.List.{_∷_, _++_, map}
 use mathlib.Core.Path.{_≡_, refl, sym, ap, ap₂, _∙_}
 use Prim.Native.Nat.{ℕ, zero, suc, _+_}
 use Rattle.laws.proofs.Tests.{by-cond}
@@ -12,7 +12,7 @@ use Rattle.channel.specs.Channel.{heard, heardBy, sounded}
 use Rattle.mixer.specs.Mix.{mixed}
 use Rattle.chip.specs.declared.Chip.{Chip}
 use Rattle.clocking_word.specs.Word.{drained, ranOf, mixedOf, wordOf}
-use Rattle.clocking_block.specs.Block.{afterOne, afterWords, ticksOf}
+use Rattle.clocking_block.specs.Block.{afterOne, afterWords, appliedOf, ticksOf}
 use Rattle.laws_promises.specs.History.{Entry, entryOf, entries}
 use Rattle.laws_alike.specs.Claims.{sharedChannel, shared, sharedEntry}
 
@@ -61,6 +61,12 @@ pub entries-alike : (n : ℕ) (c d : Chip) → shared c ≡ shared d → map sha
 unfolding entries
 entries-alike zero c d e = refl
 entries-alike (suc n) c d e = ap₂ _∷_ (entry-alike c d e) (entries-alike n (afterOne c) (afterOne d) (one-alike c d e))
+
+pub applied-alike : (n : ℕ) (c d : Chip) → shared c ≡ shared d → appliedOf n c ≡ appliedOf n d
+unfolding appliedOf
+applied-alike zero c d e = refl
+applied-alike (suc n) c d e =
+    ap₂ _++_ (ap (λ (w : Entry). w .applied) (entry-alike c d e)) (applied-alike n (afterOne c) (afterOne d) (one-alike c d e))
 
 pub ticks-alike : (n : ℕ) (c d : Chip) → shared c ≡ shared d → ticksOf n c ≡ ticksOf n d
 unfolding ticksOf

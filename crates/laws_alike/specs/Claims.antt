@@ -12,9 +12,9 @@ use Rattle.chip.specs.declared.Chip.{Chip}
 use Rattle.chip_parts.specs.Parts.{withCore}
 use Rattle.calls_making.specs.Making.{defaultVariant, withVariant}
 use Rattle.variants.specs.Variants.{makingNo}
-use Rattle.calls_registers.specs.Stored.{dumpRegisters, readRegister}
-use Rattle.calls_ports.specs.Ports.{readPort}
-use Rattle.calls_cycles.specs.Cycles.{cpuCycle, pendingWriteCount}
+use Rattle.calls_registers.specs.Stored.{dumpRegisters, loadedRegisters, readRegister, wroteRegister}
+use Rattle.calls_ports.specs.Ports.{readPort, wrotePortImmediate}
+use Rattle.calls_cycles.specs.Cycles.{cpuCycle, flushedPendingWrites, pendingWriteCount}
 use Rattle.calls_channels.specs.ChannelCalls.{isChannelMuted}
 use Rattle.calls_words.specs.Blocks.{blocked}
 use Rattle.laws_promises.specs.History.{Call, answers, after, Entry, Ledger, emptyLedger, ledger}
@@ -45,10 +45,15 @@ sharedEntry w = record { end = w .end; applied = w .applied; ticks = w .ticks; v
 abbrev pub sharedLedger : Ledger → Ledger
 sharedLedger l = record { words = map sharedEntry (l .words); accepted = l .accepted; applied = l .applied; restarted = l .restarted }
 
--- What two chips answer to who asks. (`get_channel_outputs` is not here: outputs may differ.)
+-- What two chips answer to who asks, and what they report of register writes (02, request 03). (`get_channel_outputs` is not here: outputs
+-- may differ.)
 pub record AnswerAlike (c d : Chip) : Type 0 where
   pub number : (x : Call) → answers x c .no ≡ answers x d .no
   pub block : (n : ℕ) → blocked n c .answer ≡ blocked n d .answer
+  pub wrote : (register value : ℕ) → wroteRegister register value c .answer ≡ wroteRegister register value d .answer
+  pub loaded : (bytes : List ℕ) → loadedRegisters bytes c .answer ≡ loadedRegisters bytes d .answer
+  pub wrote-port : (port value : ℕ) → wrotePortImmediate port value c .answer ≡ wrotePortImmediate port value d .answer
+  pub flushed : flushedPendingWrites c .answer ≡ flushedPendingWrites d .answer
   pub register : (register : ℕ) → readRegister register c ≡ readRegister register d
   pub registers : dumpRegisters c ≡ dumpRegisters d
   pub port : (port : ℕ) → readPort port c ≡ readPort port d

@@ -22,13 +22,14 @@ use Rattle.three_channels.specs.Channels.{channelAt, putChannel, setMute, setDr
 use Rattle.mixer.specs.Mix.{mixed}
 use Rattle.registers.specs.Registers.{pairAt, tonePeriodSet, noisePeriodSet, gatesSet, envelopePeriodSet, shapeSet, voiceSet, masked, applyRegister}
 use Rattle.registers.specs.Writes.{appliedInOrder, registersFrom}
+use Rattle.write_effects.specs.Effects.{changesIn, restartsIn}
 use Rattle.all_registers.specs.Reset.{voiceReset}
 use Rattle.queue.specs.Waiting.{writesFrom, waiting, due, queueIn}
 use Rattle.queue_flush.specs.Applied.{registerWrites}
 use Rattle.queue_drain.specs.Drain.{drain}
 use Rattle.clocking_ticks.specs.Ticks.{ticking, ticked}
 use Rattle.clocking_word.specs.Word.{drained, ranOf, mixedOf, wordOf}
-use Rattle.clocking_block.specs.Block.{afterWords, ticksOf, wordsOf}
+use Rattle.clocking_block.specs.Block.{afterWords, appliedOf, ticksOf, wordsOf}
 use Rattle.clocks.specs.Clocks.{clocksNo}
 use Rattle.voice_range.specs.Range.{bytesIn, toneIn, allOrNone, noiseIn, envelopeIn, generatorsIn, gatesIn, voiceIn}
 use Rattle.chip.specs.Range.{clocksIn, coreIn, chipIn}
@@ -48,7 +49,7 @@ use Rattle.laws_bench_rules.specs.Setups.{ticks, at44100, shape8, drumAl
 use Rattle.laws_bench_rules.specs.Table.{Table}
 
 pub table : Table
-unfolding ticks at44100 shape8 drumAlone resetAfter31 needless digits decimalOf hexValue allHex hexByte span lineAt startsWith valueAt lineEntryAt masterLineNo rateLineNo wordsLineNo framesLineNo isFrame frameAt clockLines framesFrom sized verdictOf shapeEntry envelopeEntry toneSet toneStep toneTick registerStep outputBy noiseTick nextPosition envelopeTick rowPlace envelopeLevel tick edgesOf toneAt putTone tonesSet powerOnEdges generatorsReset gatesFrom gateOf drumOut heard sounded fixedLevel envelopeUsed levelUsed gatedLevel loudnessOf channelAt putChannel setMute setDrum mixed pairAt tonePeriodSet noisePeriodSet gatesSet envelopePeriodSet shapeSet voiceSet masked applyRegister registersFrom voiceReset writesFrom waiting due appliedInOrder registerWrites drain queueIn ticking ticked drained ranOf mixedOf wordOf afterWords ticksOf wordsOf clocksNo clocksIn bytesIn toneIn allOrNone noiseIn envelopeIn generatorsIn gatesIn voiceIn variantIn coreIn chipIn madeOf fresh withClocks resetOf resetCall writeRegister readRegister setChannelMute setDrumSampleOverride blockNumber blocked blockBuffer sampled registersWritten frameWrites frameChip framePlace chipBefore frameWords wordsIn spelt linesOf totalText printed mul div ofInt
+unfolding ticks at44100 shape8 drumAlone resetAfter31 needless digits decimalOf hexValue allHex hexByte span lineAt startsWith valueAt lineEntryAt masterLineNo rateLineNo wordsLineNo framesLineNo isFrame frameAt clockLines framesFrom sized verdictOf shapeEntry envelopeEntry toneSet toneStep toneTick registerStep outputBy noiseTick nextPosition envelopeTick rowPlace envelopeLevel tick edgesOf toneAt putTone tonesSet powerOnEdges generatorsReset gatesFrom gateOf drumOut heard sounded fixedLevel envelopeUsed levelUsed gatedLevel loudnessOf channelAt putChannel setMute setDrum mixed pairAt tonePeriodSet noisePeriodSet gatesSet envelopePeriodSet shapeSet voiceSet masked applyRegister registersFrom changesIn restartsIn voiceReset writesFrom waiting due appliedInOrder registerWrites drain queueIn ticking ticked drained ranOf mixedOf wordOf afterWords appliedOf ticksOf wordsOf clocksNo clocksIn bytesIn toneIn allOrNone noiseIn envelopeIn generatorsIn gatesIn voiceIn variantIn coreIn chipIn madeOf fresh withClocks resetOf resetCall writeRegister readRegister setChannelMute setDrumSampleOverride blockNumber blocked blockBuffer sampled registersWritten frameWrites frameChip framePlace chipBefore frameWords wordsIn spelt linesOf totalText printed mul div ofInt
 table =
     record {
       seed = refl;

@@ -25,7 +25,7 @@ pub record Table : Type 0 where
   pub ticks : map (λ n. ticksAfter n at44100) (0 ∷ 1 ∷ 2 ∷ 3 ∷ []) ≡ 6 ∷ 6 ∷ 6 ∷ 5 ∷ []
   pub accumulator : blocked 4 at44100 .chip .core .accumulator ≡ 14300
   -- P fresh chip: first word 75.
-  pub first-word : sampled fresh .answer ≡ record { no = 0; word = 75; ticks = 1 }
+  pub first-word : sampled fresh .answer ≡ record { no = 0; word = 75; ticks = 1; changed = 0; restarted = 0 }
   -- P the dump above.
   pub dump :
       printed (bytes "master=2000000\nrate=250000\nwords=4\nframes=1\nregs=020000000000003e0f0000000000\n")

@@ -11,13 +11,15 @@ use Rattle.refusals.specs.Numbers.{accepted, lineNotOfForm, outOfRange}
 use Rattle.laws.proofs.Tests.{by-cond, by-eq, by-same}
 use Rattle.text_fields.specs.Fields.{hexByte}
 use Rattle.dump_lines.specs.OneLine.{isFrame}
+use Rattle.registers.specs.Writes.{RegisterWrite}
+use Rattle.dump_writes.specs.Writes.{frameWrites}
 use Rattle.chip.specs.declared.Chip.{Chip}
 use Rattle.chip.specs.Range.{chipIn}
 use Rattle.chip.proofs.InRange.{InRange}
 use Rattle.answers.specs.Answers.{answered}
 use Rattle.answers.specs.declared.Blocked.{Blocked}
 use Rattle.calls_words.specs.Blocks.{blockRefused, blocked, blockBuffer}
-use Rattle.dump_frames.specs.Frame.{frameChip, frameLoaded, keptIf, framePlayed, frameBuffer}
+use Rattle.dump_frames.specs.Frame.{frameChip, frameLoaded, keptIf, framePlayed, frameBuffer, together}
 use Rattle.laws_promises.specs.History.{block, answers, after, Ledger, emptyLedger, restarts, enters, isAccepted, entered, ledger}
 use Rattle.laws_promises.specs.Demand.{N, T}
 use Rattle.laws_promises.proofs.Handed.{block-adds, block-words}
@@ -27,8 +29,8 @@ use Rattle.laws_histories.proofs.Appending.{after-append, ledger-append
 use Rattle.laws_histories.proofs.Writes.{written}
 
 -- what an accepted frame has passed
-kept-taken : (c : Chip) (b : Blocked) → keptIf c b .answer .no ≡ accepted → b .answer .no ≡ accepted
-kept-taken c b =
+kept-taken : (writes : List RegisterWrite) (c : Chip) (b : Blocked) → keptIf writes c b .answer .no ≡ accepted → b .answer .no ≡ accepted
+kept-taken writes c b =
     by-cond (λ (x : Blocked). x .answer .no ≡ accepted → b .answer .no ≡ accepted) (eqb (b .answer .no) accepted) _ _ (λ _ e. e) (λ _ e. e)
 
 record Passed (tested formed : Bool) (b : Blocked) : Type 0 where
@@ -36,12 +38,12 @@ record Passed (tested formed : Bool) (b : Blocked) : Type 0 where
   frame : formed ≡ true
   block : b .answer .no ≡ accepted
 
-passed : (c : Chip) (b : Blocked) (range frame : Bool)
-    → cond range (cond frame (keptIf c b) (blockRefused lineNotOfForm c)) (blockRefused outOfRange c) .answer .no ≡ accepted
+passed : (writes : List RegisterWrite) (c : Chip) (b : Blocked) (range frame : Bool)
+    → cond range (cond frame (keptIf writes c b) (blockRefused lineNotOfForm c)) (blockRefused outOfRange c) .answer .no ≡ accepted
     → Passed range frame b
-passed c b true true e = record { range = refl; frame = refl; block = kept-taken c b e }
-passed c b true false e = absurd (omega arith)
-passed c b false frame e = absurd (omega arith)
+passed writes c b true true e = record { range = refl; frame = refl; block = kept-taken writes c b e }
+passed writes c b true false e = absurd (omega arith)
+passed writes c b false frame e = absurd (omega arith)
 
 -- one call
 block-chip : (out : List ℕ) (c : Chip) → answers (block out) c .chip ≡ blocked (length out) c .chip
@@ -59,7 +61,7 @@ module _ (value out : List ℕ) (c : Chip) (e : framePlayed value (length out) c
 
   was : Passed (chipIn c) (isFrame value) (blocked (length out) d)
   unfolding framePlayed
-  was = passed c (blocked (length out) d) (chipIn c) (isFrame value) e
+  was = passed (frameWrites value) c (blocked (length out) d) (chipIn c) (isFrame value) e
 
   pub frame-in-range : chipIn c ≡ true
   frame-in-range = was .range
@@ -68,7 +70,7 @@ module _ (value out : List ℕ) (c : Chip) (e : framePlayed value (length out) c
   unfolding frameLoaded
   load-taken = rw (was .range, was .frame)
 
-  played : framePlayed value (length out) c ≡ blocked (length out) d
+  pub played : framePlayed value (length out) c ≡ together (frameWrites value) c (blocked (length out) d)
   unfolding framePlayed
   played = rw (was .range, was .frame, eq-eqb _ accepted (was .block))
 
@@ -122,23 +124,23 @@ module _ (value out : List ℕ) (c : Chip) (e : framePlayed value (length out) c
       frame-queues-none = rw frame-ledger (block-queues-none out d m)
 
 -- a refused frame
-refused-by : (c : Chip) (b : Blocked) (range frame : Bool)
-    → let r = cond range (cond frame (keptIf c b) (blockRefused lineNotOfForm c)) (blockRefused outOfRange c) in
+refused-by : (writes : List RegisterWrite) (c : Chip) (b : Blocked) (range frame : Bool)
+    → let r = cond range (cond frame (keptIf writes c b) (blockRefused lineNotOfForm c)) (blockRefused outOfRange c) in
     (r .answer .no ≡ accepted → ⊥) → r ≡ blockRefused (r .answer .no) c
-refused-by c b true true f =
+refused-by writes c b true true f =
     by-eq (λ (x : Blocked). (x .answer .no ≡ accepted → ⊥) → x ≡ blockRefused (x .answer .no) c) (b .answer .no) accepted
     (λ e g. absurd (g e)) (λ _ _. refl) f
-refused-by c b true false f = refl
-refused-by c b false frame f = refl
+refused-by writes c b true false f = refl
+refused-by writes c b false frame f = refl
 
 module _ (value out : List ℕ) (c : Chip) (f : framePlayed value (length out) c .answer .no ≡ accepted → ⊥) where
   none-is : frameCalls value out c ≡ []
   unfolding frameCalls
   none-is = rw (ne-eqb _ accepted f)
 
-  stays : framePlayed value (length out) c ≡ blockRefused (framePlayed value (length out) c .answer .no) c
+  pub stays : framePlayed value (length out) c ≡ blockRefused (framePlayed value (length out) c .answer .no) c
   unfolding framePlayed
-  stays = refused-by c (blocked (length out) (frameChip value c)) (chipIn c) (isFrame value) f
+  stays = refused-by (frameWrites value) c (blocked (length out) (frameChip value c)) (chipIn c) (isFrame value) f
 
   refused-is-calls : (l : Ledger) → FrameIsCalls value out c l
   unfolding after ledger

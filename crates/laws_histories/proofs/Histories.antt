@@ -10,6 +10,7 @@ use Rattle.laws_histories.proofs.Appending.{after-append, ledger-append
 use Rattle.laws_histories.proofs.Loads.{load-is-calls}
 use Rattle.laws_histories.proofs.Frames.{frame-in-range, frame-is-calls}
 use Rattle.laws_histories.proofs.Accepted.{block-in-range}
+use Rattle.laws_histories.proofs.Reported.{frame-reports}
 use Rattle.laws_histories.proofs.Blocks.{blocks-join}
 use Rattle.laws_histories.proofs.Plays.{plays-after, plays-hold}
 use Rattle.laws_histories.proofs.Parts.{frame-in-parts}
@@ -27,6 +28,7 @@ histories =
       appended = λ a b c l. record { chip = after-append a b c; entries = ledger-append a b c l };
       load = λ value c l t. load-is-calls value c l (tested c t);
       frame = λ value out c l t. frame-is-calls value out c l (tested c t);
+      frame-reports = frame-reports;
       blocks-join = λ outs c l t e. blocks-join outs c (tested c t (block-in-range (joined outs) c e)) e l;
       frame-in-parts = λ value outs c l t e. frame-in-parts value outs c (tested c t (frame-in-range value (joined outs) c e)) e l;
       plays = λ plays c t. plays-after plays c (tested c t);

@@ -4,6 +4,7 @@ pub mod Writes
 pub mod Loads
 pub mod Frames
 pub mod Accepted
+pub mod Reported
 pub mod Blocks
 pub mod Since
 pub mod Plays

@@ -9,6 +9,7 @@ use lib.ListN.{length}
 use Rattle.refusals.specs.Numbers.{accepted, outOfRange}
 use Rattle.laws.specs.All.{All}
 use Rattle.envelope.specs.Range.{PositionInRange}
+use Rattle.write_effects.specs.Effects.{changesIn, restartsIn}
 use Rattle.queue.specs.Waiting.{waiting}
 use Rattle.queue_flush.specs.Applied.{applyAll}
 use Rattle.chip.specs.declared.Chip.{Chip}
@@ -17,18 +18,20 @@ use Rattle.chip.specs.Range.{chipIn}
 use Rattle.clocks.specs.Clocks.{clocksNo}
 use Rattle.calls_making.specs.Making.{defaultVariant, withVariant}
 use Rattle.variants.specs.Variants.{variantIn, makingNo}
+use Rattle.answers.specs.Answers.{answered}
+use Rattle.answers.specs.Reports.{bytesOf, counts}
 use Rattle.calls_cycles.specs.Cycles.{pendingWriteCount}
 use Rattle.dump.specs.Checked.{verdictOf}
 use Rattle.calls_words.specs.Blocks.{blockBuffer}
 use Rattle.text_fields.specs.Fields.{hexByte}
 use Rattle.dump_writes.specs.Writes.{registersWritten}
-use Rattle.dump_frames.specs.Frame.{frameLoaded, framePlayed, frameBuffer}
+use Rattle.dump_frames.specs.Frame.{frameLoaded, framePlayed, frameBuffer, frameReported}
 use Rattle.dump_words.specs.Words.{linesOf}
 use Rattle.output_lines.specs.Lines.{totalText}
 use Rattle.dump_played.specs.Whole.{chipBefore, wordsIn, printed}
 use Rattle.laws_promises.specs.History.{Call, reset, flush-pending-writes, block, answers, after, Ledger, emptyLedger, restarts, entered, ledger}
 use Rattle.laws_promises.specs.Demand.{N, T, Small, noiseOf, positionOf, FromZero, Plain, Served, Holds}
-use Rattle.laws_histories.specs.Histories.{AllAccepted, values, writeCalls, frameCalls, loadCalls, Play, afterPlays, allCalls, joined, handed, inParts, madeFor, dumpCalls, Began, OfItsType}
+use Rattle.laws_histories.specs.Histories.{AllAccepted, values, writeCalls, frameApplies, frameCalls, loadCalls, Play, afterPlays, allCalls, joined, handed, inParts, madeFor, dumpCalls, Began, OfItsType}
 
 -- Calls, and then more calls.
 pub record Appended (a b : List Call) (c : Chip) (l : Ledger) : Type 0 where
@@ -66,6 +69,19 @@ pub record FrameIsCalls (value out : List ℕ) (c : Chip) (l : Ledger) : Type 0 
   pub refused : (framePlayed value (length out) c .answer .no ≡ accepted → ⊥) → ledger (frameCalls value out c) c l ≡ l
   -- No frame queues a write.
   pub writes : ledger (frameCalls value out c) c l .accepted ≡ l .accepted
+
+-- What a frame reports, for every value, buffer and record. 02, request 03: "equal to counts over the definition's list of applied writes".
+pub record FrameReports (value out : List ℕ) (c : Chip) : Type 0 where
+  -- Loading one leaves the chip and answers the number of `LoadIsCalls`; refused, it reports 0 and 0.
+  pub loaded : answered (frameReported value c .answer .no) (frameReported value c .chip) ≡ frameLoaded value c
+  pub not-loaded : (frameLoaded value c .no ≡ accepted → ⊥) → frameReported value c .answer ≡ counts (frameLoaded value c .no) 0 0
+  -- Playing one, it counts over its own writes and then those that its words apply; refused, it reports 0 and 0.
+  pub changed : framePlayed value (length out) c .answer .no ≡ accepted
+      → framePlayed value (length out) c .answer .changed ≡ changesIn (frameApplies value (length out) c) (bytesOf c)
+  pub restarted : framePlayed value (length out) c .answer .no ≡ accepted
+      → framePlayed value (length out) c .answer .restarted ≡ restartsIn (frameApplies value (length out) c)
+  pub refused : (framePlayed value (length out) c .answer .no ≡ accepted → ⊥)
+      → (framePlayed value (length out) c .answer .changed ≡ 0) × (framePlayed value (length out) c .answer .restarted ≡ 0)
 
 -- An accepted block is the same history in any number of parts, each of them accepted: they leave the same chip, enter the same and hand
 -- over the same words.
@@ -146,6 +162,7 @@ pub record Histories : Type 0 where
   pub appended : (a b : List Call) (c : Chip) (l : Ledger) → Appended a b c l
   pub load : (value : List ℕ) (c : Chip) (l : Ledger) → OfItsType c → LoadIsCalls value c l
   pub frame : (value out : List ℕ) (c : Chip) (l : Ledger) → OfItsType c → FrameIsCalls value out c l
+  pub frame-reports : (value out : List ℕ) (c : Chip) → FrameReports value out c
   pub blocks-join : (outs : List (List ℕ)) (c : Chip) (l : Ledger) → OfItsType c → answers (block (joined outs)) c .no ≡ accepted
       → BlocksJoin outs c l
   pub frame-in-parts : (value : List ℕ) (outs : List (List ℕ)) (c : Chip) (l : Ledger) → OfItsType c

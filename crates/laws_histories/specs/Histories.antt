@@ -9,11 +9,13 @@ use Rattle.laws.specs.All.{All}
 use Rattle.refusals.specs.Numbers.{accepted}
 use Rattle.dump.specs.Checked.{verdictOf}
 use Rattle.chip.specs.declared.Chip.{Chip}
+use Rattle.queue_flush.specs.Applied.{registerWrites}
+use Rattle.clocking_block.specs.Block.{appliedOf}
 use Rattle.calls_making.specs.Making.{withClocks}
 use Rattle.calls_words.specs.Blocks.{blockBuffer}
 use Rattle.registers.specs.Writes.{RegisterWrite}
 use Rattle.dump_writes.specs.Writes.{frameWrites}
-use Rattle.dump_frames.specs.Frame.{frameLoaded, framePlayed}
+use Rattle.dump_frames.specs.Frame.{frameChip, frameLoaded, framePlayed}
 use Rattle.dump_played.specs.Whole.{valueOf}
 use Rattle.laws_promises.specs.History.{Call, reset, write-register, block, answers, after, Entry, isAccepted}
 
@@ -38,6 +40,10 @@ writeThenRender value out = writeCalls value ++ block out ∷ []
 -- Playing a frame with a lent buffer (`play_frame`), as calls. A frame that is refused changes nothing: it is no call.
 unfoldable pub frameCalls : List ℕ → List ℕ → Chip → List Call
 frameCalls value out c = cond (isAccepted (framePlayed value (length out) c .answer .no)) (writeThenRender value out) []
+
+-- The register writes that it applies: its own, at once, and then the waiting ones that its words apply.
+unfoldable pub frameApplies : List ℕ → ℕ → Chip → List RegisterWrite
+frameApplies value n c = frameWrites value ++ registerWrites (appliedOf n (frameChip value c))
 
 -- Loading a frame and rendering nothing (`load_frame`), as calls: its writes, or none where it is refused.
 unfoldable pub loadCalls : List ℕ → Chip → List Call

@@ -21,7 +21,7 @@ use Rattle.laws_promises.specs.History.{Call, answers, after, emptyLedger, ledg
 use Rattle.laws_promises.specs.Demand.{Holds}
 use Rattle.laws_promises.proofs.Numbered.{numbered}
 use Rattle.laws_promises.proofs.Demand.{demand-3}
-use Rattle.laws_promises.proofs.Public.{new-begins, clocks-begin, refused-begins}
+use Rattle.laws_promises.proofs.Public.{new-begins, clocks-begin, public, refused-begins}
 use Rattle.laws_hosts.specs.Hosts.{tells, leftBy, madeRecord, Hosts}
 
 drum-kept : (d : Drum) → drumOf (recordDrum d) ≡ d
@@ -47,17 +47,22 @@ writes call x =
     let a = answers call (chipOf x) in
     by-eq (λ (y : Record). chipOf y ≡ a .chip) (a .no) accepted (λ _. kept (a .chip)) (λ f. sym (numbered call (chipOf x) .stays f))
 
+-- one that reports: its number and its chip are the history's
+reported : (call : Call) (x : Record) {a : Answered} → answers call (chipOf x) ≡ a
+    → (a .no ≡ answers call (chipOf x) .no) × (chipOf (lentBack x (a .no) (a .chip)) ≡ answers call (chipOf x) .chip)
+reported call x e = (ap (λ (a : Answered). a .no) (sym e), ap (λ (a : Answered). chipOf (lentBack x (a .no) (a .chip))) (sym e) ∙ writes call x)
+
 -- each call: its number is the chip's, and so is what it leaves
 one : (call : Call) (x : Record) → (tells call x .no ≡ answers call (chipOf x) .no) × (chipOf (tells call x .chip) ≡ answers call (chipOf x) .chip)
 unfolding tells answers
 one History.reset x = (refl, writes History.reset x)
-one (History.write-register register value) x = (refl, writes (History.write-register register value) x)
-one (History.load-registers bytes) x = (refl, writes (History.load-registers bytes) x)
+one (History.write-register register value) x = reported (History.write-register register value) x (public (chipOf x) .write-register register value)
+one (History.load-registers bytes) x = reported (History.load-registers bytes) x (public (chipOf x) .load-registers bytes)
 one (History.write-port port value) x = (refl, writes (History.write-port port value) x)
-one (History.write-port-immediate port value) x = (refl, writes (History.write-port-immediate port value) x)
+one (History.write-port-immediate port value) x = reported (History.write-port-immediate port value) x (public (chipOf x) .write-port-immediate port value)
 one (History.set-cpu-cycle cycle) x = (refl, writes (History.set-cpu-cycle cycle) x)
 one (History.sync-sample-cycle cycle) x = (refl, writes (History.sync-sample-cycle cycle) x)
-one History.flush-pending-writes x = (refl, writes History.flush-pending-writes x)
+one History.flush-pending-writes x = reported History.flush-pending-writes x (public (chipOf x) .flush-pending-writes)
 one (History.set-timer-irq-state on) x = (refl, writes (History.set-timer-irq-state on) x)
 one (History.inside-timer-irq inside) x = (refl, writes (History.inside-timer-irq inside) x)
 one History.trigger-envelope x = (refl, writes History.trigger-envelope x)

@@ -9,9 +9,9 @@ use Rattle.chip.specs.declared.Chip.{Chip}
 use Rattle.answers.specs.Answers.{answered}
 use Rattle.calls_making.specs.Making.{defaultMaster, defaultRate, defaultVariant, fresh, resetCall, withClocks, withVariant}
 use Rattle.variants.specs.Variants.{makingNo}
-use Rattle.calls_registers.specs.Stored.{dumpRegisters, loadRegisters, readRegister, writeRegister}
-use Rattle.calls_ports.specs.Ports.{readPort, writePort, writePortImmediate}
-use Rattle.calls_cycles.specs.Cycles.{cpuCycle, flushPendingWrites, pendingWriteCount, setCpuCycle, syncSampleCycle}
+use Rattle.calls_registers.specs.Stored.{dumpRegisters, loadedRegisters, readRegister, wroteRegister}
+use Rattle.calls_ports.specs.Ports.{readPort, writePort, wrotePortImmediate}
+use Rattle.calls_cycles.specs.Cycles.{cpuCycle, flushedPendingWrites, pendingWriteCount, setCpuCycle, syncSampleCycle}
 use Rattle.calls_effects.specs.Effects.{setTimerIrqState, triggerEnvelope}
 use Rattle.calls_channels.specs.ChannelCalls.{getChannelOutputs, isChannelMuted, setChannelMute, setDrumSampleOverride}
 use Rattle.c_record.specs.declared.Record.{Record}
@@ -19,7 +19,7 @@ use Rattle.c_record.specs.Record.{chipOf, recordOf}
 use Rattle.c_told.specs.declared.Told.{Told}
 use Rattle.c_making.specs.Making.{newRecord}
 use Rattle.c_words.specs.Words.{nextBlock, nextWord}
-use Rattle.c_calls.specs.Calls.{onRecord}
+use Rattle.c_calls.specs.Calls.{applyOn, onRecord, writeOn}
 use Rattle.laws_promises.specs.History.{Call, answers, after, emptyLedger, ledger}
 use Rattle.laws_promises.specs.History.{reset, write-register, load-registers, write-port, write-port-immediate, set-cpu-cycle, sync-sample-cycle}
 use Rattle.laws_promises.specs.History.{flush-pending-writes, set-timer-irq-state, inside-timer-irq, trigger-envelope, set-channel-mute, set-drum-sample-override}
@@ -34,13 +34,13 @@ leaving number x = record { chip = x; no = number }
 -- leaves the record as it is. (A drum is handed over as a flag and a level; the call has the drum that they say.)
 unfoldable pub tells : Call → Record → Told
 tells reset x = onRecord resetCall x
-tells (write-register register value) x = onRecord (writeRegister register value) x
-tells (load-registers bytes) x = onRecord (loadRegisters bytes) x
+tells (write-register register value) x = let t = writeOn (wroteRegister register value) x in leaving (t .answer .no) (t .chip)
+tells (load-registers bytes) x = let t = applyOn (loadedRegisters bytes) x in leaving (t .answer .no) (t .chip)
 tells (write-port port value) x = onRecord (writePort port value) x
-tells (write-port-immediate port value) x = onRecord (writePortImmediate port value) x
+tells (write-port-immediate port value) x = let t = writeOn (wrotePortImmediate port value) x in leaving (t .answer .no) (t .chip)
 tells (set-cpu-cycle cycle) x = onRecord (setCpuCycle cycle) x
 tells (sync-sample-cycle cycle) x = onRecord (syncSampleCycle cycle) x
-tells flush-pending-writes x = onRecord flushPendingWrites x
+tells flush-pending-writes x = let t = applyOn flushedPendingWrites x in leaving (t .answer .no) (t .chip)
 tells (set-timer-irq-state on) x = onRecord (setTimerIrqState on) x
 tells (inside-timer-irq inside) x = onRecord (setTimerIrqState inside) x
 tells trigger-envelope x = onRecord triggerEnvelope x

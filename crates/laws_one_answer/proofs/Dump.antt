@@ -38,6 +38,7 @@ played =
       words-line-no = λ h x y. by-answer (h .𝓤);
       frames-line-no = λ h x y. by-answer (h .𝓤);
       frame-at = λ h x y. by-answer (h .𝓤);
+      restarts = λ h x y. by-answer (h .𝓤);
       write-frame = λ h x y. by-answer (h .𝓤);
       load-frame = λ h x y. by-answer (h .𝓤);
       play-frame = λ h x y. by-buffer (h .𝓤) (λ w. (tt, (tt, (tt, (w, tt)))));

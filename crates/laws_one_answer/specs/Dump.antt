@@ -19,6 +19,7 @@ use Rattle.dump_lines.proofs.rate_line_no as rate-line-no
 use Rattle.dump_lines.proofs.words_line_no as words-line-no
 use Rattle.dump_lines.proofs.frames_line_no as frames-line-no
 use Rattle.dump_lines.proofs.frame_at as frame-at
+use Rattle.dump_writes.proofs.restarts
 use Rattle.dump_writes.proofs.write_frame as write-frame
 use Rattle.dump_frames.proofs.load_frame as load-frame
 use Rattle.dump_frames.proofs.play_frame as play-frame
@@ -60,6 +61,7 @@ pub record Played : Type 2 where
   pub words-line-no : Settles words-line-no.ended (λ M. words-line-no.clauses)
   pub frames-line-no : Settles frames-line-no.ended (λ M. frames-line-no.clauses)
   pub frame-at : Settles frame-at.ended (λ M. frame-at.clauses)
+  pub restarts : Settles restarts.ended (λ M. restarts.clauses)
   pub write-frame : Settles write-frame.ended (λ M. write-frame.clauses)
   pub load-frame : Settles load-frame.ended (λ M. load-frame.clauses)
   pub play-frame : Settles play-frame.ended (λ M. play-frame.clauses)

@@ -80,6 +80,10 @@ use Rattle.queue.proofs.Queue.new as queue-new
 use Rattle.queue.proofs.Queue.in_range as queue-in-range
 use Rattle.queue.proofs.Queue.push as queue-push
 use Rattle.queue_flush.proofs.flush as queue-flush
+use Rattle.write_effects.proofs.effect_of as effect-of
+use Rattle.write_effects.proofs.differences
+use Rattle.write_effects.proofs.counted
+use Rattle.queue_effects.proofs.effects
 use Rattle.queue_drain.proofs.drain
 use Rattle.queue_drain.proofs.drain_one as drain-one
 use Rattle.clocking_ticks.proofs.run_ticks as run-ticks
@@ -190,6 +194,10 @@ pub record Parts : Type 2 where
   pub queue-in-range : Settles queue-in-range.ended (λ M. queue-in-range.clauses)
   pub queue-push : Settles queue-push.ended (λ M. queue-push.clauses)
   pub queue-flush : Settles queue-flush.ended (λ M. queue-flush.clauses)
+  pub effect-of : Settles effect-of.ended (λ M. effect-of.clauses)
+  pub differences : Settles differences.ended (λ M. differences.clauses)
+  pub counted : Settles counted.ended (λ M. counted.clauses)
+  pub effects : Settles effects.ended (λ M. effects.clauses)
   pub drain : Settles drain.ended (λ M. drain.clauses)
   pub drain-one : Settles drain-one.ended (λ M. drain-one.clauses)
   pub run-ticks : Settles run-ticks.ended (λ M. run-ticks.clauses)

@@ -6,18 +6,20 @@ use mathlib.Core.Path.{_≡_, refl, sym, ap, _∙_}
 use Prim.Native.Nat.{ℕ}
 use lib.ListN.{length}
 use Rattle.refusals.specs.Numbers.{accepted}
-use Rattle.laws.proofs.Tests.{on-ne}
+use Rattle.laws.proofs.Tests.{by-cond, on-ne}
 use Rattle.channel.specs.declared.Drum.{Drum}
 use Rattle.chip.specs.declared.Chip.{Chip}
 use Rattle.clocks.specs.Clocks.{clocksNo}
 use Rattle.answers.specs.declared.Answered.{Answered}
+use Rattle.answers.specs.declared.Written.{Written}
 use Rattle.answers.specs.Answers.{answered}
+use Rattle.answers.proofs.Laws.{of-one, of-some, one-is, some-is}
 use Rattle.calls_making.specs.Making.{fresh, withClocks, withVariant, resetCall, defaultMaster, defaultRate, defaultVariant}
 use Rattle.variants.specs.Variants.{variantIn, makingNo}
 use Rattle.calls_making.proofs.Makings.{default-variant}
-use Rattle.calls_registers.specs.Stored.{dumpRegisters, loadRegisters, readRegister, writeRegister}
-use Rattle.calls_ports.specs.Ports.{readPort, writePort, writePortImmediate}
-use Rattle.calls_cycles.specs.Cycles.{cpuCycle, flushPendingWrites, pendingWriteCount, setCpuCycle, syncSampleCycle}
+use Rattle.calls_registers.specs.Stored.{dumpRegisters, loadRegisters, loadedRegisters, readRegister, writeRegister, wroteRegister}
+use Rattle.calls_ports.specs.Ports.{bit1Clear, readPort, writePort, writePortImmediate, wrotePortImmediate}
+use Rattle.calls_cycles.specs.Cycles.{cpuCycle, flushPendingWrites, flushedPendingWrites, pendingWriteCount, setCpuCycle, syncSampleCycle}
 use Rattle.calls_effects.specs.Effects.{setTimerIrqState, triggerEnvelope}
 use Rattle.calls_channels.specs.ChannelCalls.{getChannelOutputs, isChannelMuted, setChannelMute, setDrumSampleOverride}
 use Rattle.calls_words.specs.Blocks.{blocked, sampled}
@@ -27,13 +29,13 @@ use Rattle.laws_promises.specs.History.{answers}
 -- the right sides are those of the promises
 pub record Public (c : Chip) : Type 0 where
   pub reset : answers History.reset c ≡ resetCall c
-  pub write-register : (register value : ℕ) → answers (History.write-register register value) c ≡ writeRegister register value c
-  pub load-registers : (bytes : List ℕ) → answers (History.load-registers bytes) c ≡ loadRegisters bytes c
+  pub write-register : (register value : ℕ) → answers (History.write-register register value) c ≡ of-one (wroteRegister register value c)
+  pub load-registers : (bytes : List ℕ) → answers (History.load-registers bytes) c ≡ of-some (loadedRegisters bytes c)
   pub write-port : (port value : ℕ) → answers (History.write-port port value) c ≡ writePort port value c
-  pub write-port-immediate : (port value : ℕ) → answers (History.write-port-immediate port value) c ≡ writePortImmediate port value c
+  pub write-port-immediate : (port value : ℕ) → answers (History.write-port-immediate port value) c ≡ of-one (wrotePortImmediate port value c)
   pub set-cpu-cycle : (cycle : ℕ) → answers (History.set-cpu-cycle cycle) c ≡ setCpuCycle cycle c
   pub sync-sample-cycle : (cycle : ℕ) → answers (History.sync-sample-cycle cycle) c ≡ syncSampleCycle cycle c
-  pub flush-pending-writes : answers History.flush-pending-writes c ≡ flushPendingWrites c
+  pub flush-pending-writes : answers History.flush-pending-writes c ≡ of-some (flushedPendingWrites c)
   pub set-timer-irq-state : (on : Bool) → answers (History.set-timer-irq-state on) c ≡ setTimerIrqState on c
   pub inside-timer-irq : (inside : Bool) → answers (History.inside-timer-irq inside) c ≡ setTimerIrqState inside c
   pub trigger-envelope : answers History.trigger-envelope c ≡ triggerEnvelope c
@@ -51,17 +53,17 @@ pub record Public (c : Chip) : Type 0 where
   pub get-channel-outputs : answers History.get-channel-outputs c ≡ answered (getChannelOutputs c .no) c
 
 pub public : (c : Chip) → Public c
-unfolding answers
+unfolding answers wroteRegister loadedRegisters wrotePortImmediate flushedPendingWrites
 public c =
     record {
       reset = refl;
-      write-register = λ _ _. refl;
-      load-registers = λ _. refl;
+      write-register = λ register value. one-is _ _ (writeRegister register value c);
+      load-registers = λ bytes. some-is _ c (loadRegisters bytes c);
       write-port = λ _ _. refl;
-      write-port-immediate = λ _ _. refl;
+      write-port-immediate = λ port value. by-cond (λ (w : Written). writePortImmediate port value c ≡ of-one w) (bit1Clear port) _ _ (λ _. one-is _ _ _) (λ _. one-is _ _ _);
       set-cpu-cycle = λ _. refl;
       sync-sample-cycle = λ _. refl;
-      flush-pending-writes = refl;
+      flush-pending-writes = some-is _ c (flushPendingWrites c);
       set-timer-irq-state = λ _. refl;
       inside-timer-irq = λ _. refl;
       trigger-envelope = refl;

@@ -8,14 +8,14 @@ use Rattle.answers.specs.Answers.{answered}
 use Rattle.answers.specs.declared.Answered.{Answered}
 use Rattle.channel.specs.declared.Drum.{Drum}
 use Rattle.clocking_block.specs.Block.{afterOne}
-use Rattle.clocking_word.specs.Word.{endOf, wordOf}
+use Rattle.clocking_word.specs.Word.{appliedBy, endOf, wordOf}
 use Rattle.chip.specs.declared.Chip.{Chip}
 use Rattle.calls_cycles.specs.Cycles.{cpuCycle, flushPendingWrites, pendingWriteCount, setCpuCycle, syncSampleCycle}
 use Rattle.calls_effects.specs.Effects.{setTimerIrqState, triggerEnvelope}
 use Rattle.calls_channels.specs.ChannelCalls.{getChannelOutputs, isChannelMuted, setChannelMute, setDrumSampleOverride}
 use Rattle.calls_making.specs.Making.{resetCall}
 use Rattle.calls_ports.specs.Ports.{bit1Clear, readPort, stamped, writePort, writePortImmediate}
-use Rattle.queue.specs.Waiting.{due, waiting}
+use Rattle.queue.specs.Waiting.{waiting}
 use Rattle.queue.specs.declared.Write.{Write}
 use Rattle.refusals.specs.Numbers.{accepted}
 use Rattle.calls_registers.specs.Stored.{dumpRegisters, loadRegisters, readRegister, writeRegister}
@@ -47,8 +47,8 @@ pub data Call : Type 0 where
   is-channel-muted : (channel : ℕ) → Call
   get-channel-outputs : Call
 
--- The number that a call answers and the chip that it leaves: each by the definition that its public promise cites. (`cabinet`'s
--- calls on a lent chip promise the same definitions.) A call that only reads leaves the chip as it is.
+-- The number that a call answers and the chip that it leaves: each by the definition that its public promise cites, or reports on
+-- (02, request 03). (`cabinet`'s calls on a lent chip promise the same definitions.) A call that only reads leaves the chip as it is.
 unfoldable pub answers : Call → Chip → Answered
 answers reset c = resetCall c
 answers (write-register register value) c = writeRegister register value c
@@ -89,7 +89,7 @@ abbrev pub entryOf : Chip → Entry
 entryOf c =
     record {
       end = endOf (c .core);
-      applied = due (endOf (c .core)) (waiting (c .queue));
+      applied = appliedBy (c .core) (c .queue);
       ticks = wordOf (c .core) (c .queue) .ticks;
       value = wordOf (c .core) (c .queue) .word;
     }

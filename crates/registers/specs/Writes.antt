@@ -25,5 +25,8 @@ abbrev pub allRegisters : (ℕ → ℕ) → List RegisterWrite
 allRegisters byte = registersFrom 14 0 byte
 
 -- `load_registers` writes bytes 0 to 13 in order.
+abbrev pub loadWrites : List ℕ → List RegisterWrite
+loadWrites bytes = allRegisters (λ register. getD bytes register 0)
+
 abbrev pub loaded : List ℕ → Voice → Voice
-loaded bytes v = appliedInOrder (allRegisters (λ register. getD bytes register 0)) v
+loaded bytes v = appliedInOrder (loadWrites bytes) v

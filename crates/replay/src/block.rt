@@ -4,20 +4,19 @@ use script_print::put_form;
 // A longer block prints its first and last word and a check of all.
 const SHOWN: u64 = 32;
 
-// How many there are, how many ticks they took, and the first of the buffer.
-pub fn put_words(out: &mut [u8], at: usize, count: u64, ticks: u64, words: &[u16]) -> usize {
-    let counted = put_form(out, at, b" # #", &[count, ticks]);
+// The first of the buffer, as many as there are.
+pub fn put_words(out: &mut [u8], at: usize, count: u64, words: &[u16]) -> usize {
     if count == 0 {
-        return counted;
+        return at;
     }
     if count > words.len() as u64 {
-        return counted;
+        return at;
     }
     let end = count as usize;
     if count <= SHOWN {
-        return put_all(out, counted, &words[0..end]);
+        return put_all(out, at, &words[0..end]);
     }
-    put_ends(out, counted, &words[0..end])
+    put_ends(out, at, &words[0..end])
 }
 
 fn put_all(out: &mut [u8], at: usize, words: &[u16]) -> usize {

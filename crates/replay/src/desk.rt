@@ -1,28 +1,25 @@
 // A call to a chip, by value or lent: the chip after it, and what the call answers.
+use crate::after;
+use crate::after::After;
 use crate::lent;
 use crate::said;
-use crate::said::Rest;
 use crate::said::Said;
 use crate::value;
 use answers::Answered;
 use answers::Blocked;
 use answers::Sampled;
 use chip::Chip;
+use script_calls::Apply;
 use script_calls::Call;
 use script_calls::Change;
 use script_calls::Look;
 use script_state::with_setting;
 
-pub struct After {
-    pub chip: Chip,
-    pub said: Said,
-}
-
 // The words of a block are put into the buffer.
 pub fn called(chip: Chip, lent: bool, call: Call, words: &mut [u16]) -> After {
     if let Call::Block(count) = call {
         if count <= words.len() {
-            return played(block(chip, lent, &mut words[0..count]));
+            return after::played(block(chip, lent, &mut words[0..count]));
         }
     }
     answer(chip, lent, call)
@@ -30,10 +27,11 @@ pub fn called(chip: Chip, lent: bool, call: Call, words: &mut [u16]) -> After {
 
 fn answer(chip: Chip, lent: bool, call: Call) -> After {
     match call {
-        Call::Look(x) => kept(chip, look(chip, lent, x)),
-        Call::Waiting(place) => kept(chip, said::waiting(chip.queue, place)),
-        Call::Word => sampled(word(chip, lent)),
-        _ => changed(alone(chip, lent, call)),
+        Call::Look(x) => after::kept(chip, look(chip, lent, x)),
+        Call::Waiting(place) => after::kept(chip, said::waiting(chip.queue, place)),
+        Call::Word => after::sampled(word(chip, lent)),
+        Call::Apply(x) => apply(chip, lent, x),
+        _ => after::answered(alone(chip, lent, call)),
     }
 }
 
@@ -56,6 +54,13 @@ fn change(chip: Chip, lent: bool, change: Change) -> Answered {
     value::change(chip, change)
 }
 
+fn apply(chip: Chip, lent: bool, apply: Apply) -> After {
+    if lent {
+        return lent::apply(chip, apply);
+    }
+    value::apply(chip, apply)
+}
+
 fn look(chip: Chip, lent: bool, look: Look) -> Said {
     if lent {
         return lent::look(chip, look);
@@ -75,20 +80,4 @@ fn block(chip: Chip, lent: bool, words: &mut [u16]) -> Blocked {
         return cabinet_host::block(chip, words);
     }
     calls::block(chip, words)
-}
-
-fn kept(chip: Chip, said: Said) -> After {
-    After { chip, said }
-}
-
-fn changed(after: Answered) -> After {
-    kept(after.chip, said::told(after.no, Rest::Nothing))
-}
-
-fn sampled(after: Sampled) -> After {
-    kept(after.chip, said::sample(after.answer))
-}
-
-fn played(after: Blocked) -> After {
-    kept(after.chip, said::played(after.answer))
 }

@@ -1,25 +1,21 @@
 // The calls to a chip that is lent.
+use crate::after;
+use crate::after::After;
 use crate::said;
 use crate::said::Said;
 use answers::Answered;
 use channel::Drum;
 use chip::Chip;
+use script_calls::Apply;
 use script_calls::Change;
 use script_calls::Look;
 
 pub fn change(chip: Chip, change: Change) -> Answered {
     match change {
         Change::Reset => cabinet_host::reset(chip),
-        Change::Write(register, value) => cabinet_host::write_register(chip, register, value),
-        Change::Load(first, last) => cabinet_host::load_registers(
-            chip,
-            script_calls::sixteen(first, last),
-        ),
         Change::Port(port, value) => cabinet_host::write_port(chip, port, value),
-        Change::PortNow(port, value) => cabinet_host::write_port_immediate(chip, port, value),
         Change::Cycle(cycle) => cabinet_host::set_cpu_cycle(chip, cycle),
         Change::Sync(cycle) => cabinet_host::sync_sample_cycle(chip, cycle),
-        Change::Flush => cabinet_host::flush_pending_writes(chip),
         Change::Irq(on) => cabinet_host::set_timer_irq_state(chip, on),
         Change::InsideIrq(inside) => cabinet_host::inside_timer_irq(chip, inside),
         Change::Trigger => cabinet_host::trigger_envelope(chip),
@@ -34,6 +30,26 @@ pub fn change(chip: Chip, change: Change) -> Answered {
             channel,
             Drum::Sample(x),
         ),
+    }
+}
+
+pub fn apply(chip: Chip, apply: Apply) -> After {
+    match apply {
+        Apply::Write(register, value) => after::written(cabinet_host::write_register(
+            chip,
+            register,
+            value,
+        )),
+        Apply::PortNow(port, value) => after::written(cabinet_host::write_port_immediate(
+            chip,
+            port,
+            value,
+        )),
+        Apply::Load(first, last) => {
+            let bytes = script_calls::sixteen(first, last);
+            after::applied(cabinet_host::load_registers(chip, bytes))
+        }
+        Apply::Flush => after::applied(cabinet_host::flush_pending_writes(chip)),
     }
 }
 

@@ -3,11 +3,13 @@ use crate::block;
 use answers::Byte;
 use answers::Bytes;
 use answers::Count;
+use answers::Counts;
 use answers::Cycle;
 use answers::Flag;
 use answers::Outputs;
 use answers::Played;
 use answers::Sample;
+use answers::Wrote;
 use queue::Queue;
 use script_print::put_form;
 use script_print::put_hex_bytes;
@@ -23,12 +25,15 @@ pub struct Said {
 pub enum Rest {
     Nothing,
     One(u64),
+    Two(u64, u64),
     Three(u64, u64, u64),
     // the bits of three f32
     Floats(u64, u64, u64),
     Bytes,
-    // words and ticks; the words stand in a buffer
-    Words(u64, u64),
+    // words and ticks, how many writes changed a byte and how many restarted the envelope; the words stand in a buffer
+    Words(u64, u64, u64, u64),
+    // the same of one word, and it
+    Word(u64, u64, u64, u64),
     None,
 }
 
@@ -44,10 +49,20 @@ fn put_rest(out: &mut [u8], at: usize, rest: Rest, bytes: &[u8; 16], words: &[u1
     match rest {
         Rest::Nothing => at,
         Rest::One(x) => put_form(out, at, b" #", &[x]),
+        Rest::Two(x, y) => put_form(out, at, b" # #", &[x, y]),
         Rest::Three(x, y, z) => put_form(out, at, b" # # #", &[x, y, z]),
         Rest::Floats(x, y, z) => put_form(out, at, b" % % %", &[x, y, z]),
         Rest::Bytes => put_after_space(out, at, bytes),
-        Rest::Words(count, ticks) => block::put_words(out, at, count, ticks, words),
+        Rest::Words(count, ticks, changed, restarted) => {
+            let counted = put_form(out, at, b" # # # #", &[count, ticks, changed, restarted]);
+            block::put_words(out, counted, count, words)
+        }
+        Rest::Word(ticks, changed, restarted, word) => put_form(
+            out,
+            at,
+            b" 1 # # # #",
+            &[ticks, changed, restarted, word],
+        ),
         Rest::None => put_form(out, at, b" none", &[]),
     }
 }
@@ -97,16 +112,46 @@ pub fn outputs(answer: Outputs) -> Said {
     )
 }
 
+pub fn wrote(answer: Wrote) -> Said {
+    told(
+        answer.no,
+        Rest::Two(answer.changed as u64, answer.restarted as u64),
+    )
+}
+
+pub fn counts(answer: Counts) -> Said {
+    told(
+        answer.no,
+        Rest::Two(answer.changed as u64, answer.restarted as u64),
+    )
+}
+
 pub fn played(answer: Played) -> Said {
-    told(answer.no, Rest::Words(answer.words as u64, answer.ticks))
+    told(
+        answer.no,
+        Rest::Words(
+            answer.words as u64,
+            answer.ticks,
+            answer.changed as u64,
+            answer.restarted as u64,
+        ),
+    )
 }
 
 // A refused word prints as a block of none.
 pub fn sample(answer: Sample) -> Said {
     if answer.no > 0 {
-        return told(answer.no, Rest::Words(0, 0));
+        return told(answer.no, Rest::Words(0, 0, 0, 0));
     }
-    told(0, Rest::Three(1, answer.ticks, answer.word as u64))
+    told(
+        0,
+        Rest::Word(
+            answer.ticks,
+            answer.changed as u64,
+            answer.restarted as u64,
+            answer.word as u64,
+        ),
+    )
 }
 
 // No call: a look at the record's ring.

@@ -12,6 +12,7 @@ pub enum Call {
     Make(u32, u32, u8),
     Default,
     Change(Change),
+    Apply(Apply),
     Look(Look),
     Word,
     Block(usize),
@@ -27,20 +28,24 @@ pub enum Call {
 // A call that answers its number alone.
 pub enum Change {
     Reset,
-    Write(u8, u8),
-    // sixteen bytes as two numbers, the first byte the highest
-    Load(u64, u64),
     Port(u8, u8),
-    PortNow(u8, u8),
     Cycle(u64),
     Sync(u64),
-    Flush,
     Irq(bool),
     InsideIrq(bool),
     Trigger,
     Mute(usize, bool),
     DrumOff(usize),
     Drum(usize, f32),
+}
+
+// A call that applies register writes, and answers what they changed.
+pub enum Apply {
+    Write(u8, u8),
+    PortNow(u8, u8),
+    // sixteen bytes as two numbers, the first byte the highest
+    Load(u64, u64),
+    Flush,
 }
 
 // A call that only reads.

@@ -1,4 +1,5 @@
 // Which call a line is, by the number of its words and the first of them.
+use crate::Apply;
 use crate::Call;
 use crate::Change;
 use crate::Look;
@@ -66,7 +67,7 @@ fn alone(name: &[u8]) -> Call {
         1 => Call::Change(Change::Reset),
         2 => Call::Look(Look::Registers),
         3 => Call::Look(Look::Cycle),
-        4 => Call::Change(Change::Flush),
+        4 => Call::Apply(Apply::Flush),
         5 => Call::Look(Look::Pending),
         6 => Call::Change(Change::Trigger),
         7 => Call::Look(Look::Outputs),
@@ -94,7 +95,7 @@ fn load(x: &[u8]) -> Call {
     let Number::Is(last) = hex(&x[16..32], 16) else {
         return Call::Bad;
     };
-    Call::Change(Change::Load(first, last))
+    Call::Apply(Apply::Load(first, last))
 }
 
 fn block(x: &[u8]) -> Call {
@@ -206,9 +207,9 @@ fn with_bytes(name: &[u8], x: &[u8], y: &[u8]) -> Call {
         return Call::Bad;
     };
     match place_of(b"write port port_now", name) {
-        0 => Call::Change(Change::Write(narrow::byte(first), narrow::byte(value))),
+        0 => Call::Apply(Apply::Write(narrow::byte(first), narrow::byte(value))),
         1 => Call::Change(Change::Port(narrow::byte(first), narrow::byte(value))),
-        2 => Call::Change(Change::PortNow(narrow::byte(first), narrow::byte(value))),
+        2 => Call::Apply(Apply::PortNow(narrow::byte(first), narrow::byte(value))),
         _ => Call::Bad,
     }
 }

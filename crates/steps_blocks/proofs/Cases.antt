@@ -1,21 +1,34 @@
 -- A block on a record's parts, case by case. Assumes nothing.
 use mathlib.Core.Bool.{Bool, true, false, not, cond}
 use mathlib.Core.List.{List}
-use mathlib.Core.Path.{_≡_, refl, sym, _∙_}
+use mathlib.Core.Path.{_≡_, refl, sym, ap, _∙_}
 use lib.Dec.{eqb}
 use lib.ListN.{length}
-use Prim.Native.Nat.{ℕ}
+use Prim.Native.Nat.{ℕ, _-_, _≤_}
 use borrow.Author.Tests.{eq-eqb, ne-eqb, not-false, not-true}
 use Rattle.refusals.specs.Numbers.{accepted, outOfRange}
+use Rattle.registers.specs.Writes.{RegisterWrite}
+use Rattle.write_effects.specs.declared.Effects.{Effects}
+use Rattle.write_effects.specs.Effects.{effectsOf}
 use Rattle.chip.specs.declared.Chip.{Chip}
 use Rattle.clocking_block.specs.declared.Rendered.{Rendered}
 use Rattle.clocking_block.specs.Block.{blockOf, wordsOf}
 use Rattle.steps_blocks.specs.declared.BlockStep.{BlockStep}
-use Rattle.steps_blocks.specs.BlockSteps.{blockStep, bufferLeft, numberOf, playedBlock, refusedBlock}
+use Rattle.steps_blocks.specs.BlockSteps.{blockStep, bufferLeft, numberOf, playedBlock, refusedBlock, writesOf}
+use Rattle.steps_blocks.proofs.Front.{applied-front, front, no-more}
 
--- what n words leave, as the call that renders them gives it
-abbrev pub told : ℕ → Rendered → BlockStep
-told n r = record { core = r .core; head = r .head; count = r .count; answer = record { no = accepted; words = n; ticks = r .ticks } }
+-- what n words leave, as the call that renders them gives it, and what their writes changed
+abbrev pub told : ℕ → Effects → Rendered → BlockStep
+told n t r =
+    record {
+      core = r .core;
+      head = r .head;
+      count = r .count;
+      answer = record { no = accepted; words = n; ticks = r .ticks; changed = t .changed; restarted = t .restarted };
+    }
+
+pub few : (n : ℕ) (c : Chip) {r : Rendered} → r ≡ blockOf n c → r .count ≤ c .queue .count
+few n c e = rw e (no-more n c)
 
 module _ (n : ℕ) (c : Chip) (ok : Bool) where
   pub step-out : not ok ≡ true → refusedBlock outOfRange c ≡ blockStep ok n c
@@ -26,9 +39,12 @@ module _ (n : ℕ) (c : Chip) (ok : Bool) where
   unfolding blockStep
   step-late passed {number} a z = rw (a, not-false ok passed, ne-eqb (numberOf n c) accepted (λ y. z (a ∙ y)))
 
-  pub step-played : not ok ≡ false → {number : ℕ} → number ≡ numberOf n c → number ≡ accepted → {r : Rendered} → r ≡ blockOf n c → told n r ≡ blockStep ok n c
+  pub step-played : not ok ≡ false → {number : ℕ} → number ≡ numberOf n c → number ≡ accepted → {r : Rendered} → r ≡ blockOf n c
+      → {t : Effects} → t ≡ effectsOf (front c (c .queue .count - r .count)) (c .core .voice .registers) → told n t r ≡ blockStep ok n c
   unfolding blockStep
-  step-played passed {number} a z {r} p = rw (p, not-false ok passed, eq-eqb (numberOf n c) accepted (sym a ∙ z))
+  step-played passed {number} a z {r} p {t} e =
+      let counted : t ≡ effectsOf (writesOf n c) (c .core .voice .registers) = rw p at e ∙ ap (λ (l : List RegisterWrite). effectsOf l (c .core .voice .registers)) (sym (applied-front n c)) in
+      rw (p, counted, not-false ok passed, eq-eqb (numberOf n c) accepted (sym a ∙ z))
 
 module _ (out : List ℕ) (c : Chip) (ok : Bool) where
   pub buffer-out : not ok ≡ true → out ≡ bufferLeft ok out c

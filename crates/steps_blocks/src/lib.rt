@@ -1,4 +1,5 @@
-// A block of words, on the parts of a record that it reads and changes: `ok` is the test of the record. 01, "One tick, one word".
+// A block of words, on the parts of a record that it reads and changes: `ok` is the test of the record. 01, "One tick,
+// one word"; 02, request 03.
 ghost use mathlib.Core.Path.{_≡_};
 ghost use mathlib.Core.Bool.{true};
 ghost use lib.ListN.{length};
@@ -42,12 +43,18 @@ pub fn block<'t, 'o>(
     if no != refusals::ACCEPTED {
         return unrendered(core, head, count, no);
     }
+    let voice = core.voice;
+    let bytes = voice.registers;
     let rendered = clocking_block::render(stamps, registers, values, out, core, head, count);
     let after = rendered.core;
+    // The slots that were applied still stand in the ring, from the place before to the place after.
+    let told = queue_effects::effects(registers, values, head, count - rendered.count, bytes);
     let answer = Played {
         no: refusals::ACCEPTED,
         words,
         ticks: rendered.ticks,
+        changed: told.changed,
+        restarted: told.restarted,
     };
     BlockStep {
         core: after,
@@ -57,7 +64,7 @@ pub fn block<'t, 'o>(
     }
 }
 
-// Nothing changes, 0 words, 0 ticks.
+// Nothing changes: 0 words, 0 ticks, 0 and 0.
 fn unrendered(core: Core, head: usize, count: usize, number: u8) -> BlockStep
     ensures { λ r. ⌜ r ≡ unrendered core head count number ⌝ }
 {
@@ -65,6 +72,8 @@ fn unrendered(core: Core, head: usize, count: usize, number: u8) -> BlockStep
         no: number,
         words: 0,
         ticks: 0,
+        changed: 0,
+        restarted: 0,
     };
     BlockStep {
         core,

@@ -1,36 +1,49 @@
-// What the register writes change of a lent record, stepped by value: `ok` is the test of the record. 01, "Registers and ports".
+// What the register writes change of a lent record, stepped by value, and what they report: `ok` is the test of the record. 01, "Registers
+// and ports"; 02, request 03.
+ghost use mathlib.Core.Bool.{false};
 ghost use mathlib.Core.Path.{_≡_};
 ghost use Rattle.registers.specs.Registers.{applyRegister};
-ghost use Rattle.registers.specs.Writes.{loaded};
-ghost use Rattle.steps_voice.specs.VoiceSteps.{portWritten, voiced};
+ghost use Rattle.refusals.specs.Numbers.{accepted};
+ghost use Rattle.write_effects.specs.Effects.{changedBy, restartedBy};
+ghost use Rattle.answers.specs.Reports.{wrote};
+ghost use Rattle.steps_voice.specs.VoiceSteps.{portWritten, voiced, voicedAll};
+use answers::Counts;
+use answers::Wrote;
 use registers::Voice;
 
-// The voice to store, and the call's number.
+// The voice to store, and the call's answer.
 pub struct Voiced {
     pub voice: Voice,
-    pub no: u8,
+    pub answer: Wrote,
 }
 
-// The voice and the selection to store, and the call's number.
+pub struct Loaded {
+    pub voice: Voice,
+    pub answer: Counts,
+}
+
+// The voice and the selection to store, and the call's answer.
 pub struct PortWritten {
     pub voice: Voice,
     pub selected: u8,
-    pub no: u8,
+    pub answer: Wrote,
 }
 
 pub fn write_register(ok: bool, voice: Voice, register: u8, value: u8) -> Voiced
-    ensures { λ r. ⌜ r ≡ voiced ok voice (applyRegister register value voice) ⌝ }
+    ensures { λ r. ⌜ r ≡ voiced ok register value voice ⌝ }
 {
     if !ok {
         return Voiced {
             voice,
-            no: refusals::OUT_OF_RANGE,
+            answer: nothing_written(refusals::OUT_OF_RANGE),
         };
     }
+    let bytes = voice.registers;
+    let answer = written(bytes, register, value);
     let after = applied(voice, register, value);
     Voiced {
         voice: after,
-        no: refusals::ACCEPTED,
+        answer,
     }
 }
 
@@ -55,19 +68,31 @@ fn applied(voice: Voice, register: u8, value: u8) -> Voice
     settling::with_settings(bytes, settings, voice)
 }
 
-pub fn load_registers(ok: bool, voice: Voice, bytes: [u8; 16]) -> Voiced
-    ensures { λ r. ⌜ r ≡ voiced ok voice (loaded bytes voice) ⌝ }
+// Fourteen registers, each written once, and R13 among them.
+pub fn load_registers(ok: bool, voice: Voice, bytes: [u8; 16]) -> Loaded
+    ensures { λ r. ⌜ r ≡ voicedAll ok bytes voice ⌝ }
 {
     if !ok {
-        return Voiced {
+        return Loaded {
             voice,
-            no: refusals::OUT_OF_RANGE,
+            answer: Counts {
+                no: refusals::OUT_OF_RANGE,
+                changed: 0,
+                restarted: 0,
+            },
         };
     }
+    let before = voice.registers;
     let after = all_registers::load_registers(voice, bytes);
-    Voiced {
-        voice: after,
+    let left = after.registers;
+    let answer = Counts {
         no: refusals::ACCEPTED,
+        changed: write_effects::differences(before, left),
+        restarted: 1,
+    };
+    Loaded {
+        voice: after,
+        answer,
     }
 }
 
@@ -84,20 +109,45 @@ pub fn write_port_immediate(
         return PortWritten {
             voice,
             selected,
-            no: refusals::OUT_OF_RANGE,
+            answer: nothing_written(refusals::OUT_OF_RANGE),
         };
     }
     if steps_registers::bit_1_clear(port) {
         return PortWritten {
             voice,
             selected: value % 16,
-            no: refusals::ACCEPTED,
+            answer: nothing_written(refusals::ACCEPTED),
         };
     }
+    let bytes = voice.registers;
+    let answer = written(bytes, selected, value);
     let after = voice.apply_register(selected, value);
     PortWritten {
         voice: after,
         selected,
+        answer,
+    }
+}
+
+// What an accepted write changes.
+fn written(bytes: [u8; 14], register: u8, value: u8) -> Wrote
+    ensures { λ r. ⌜ r ≡ wrote accepted (changedBy register value bytes) (restartedBy register) ⌝ }
+{
+    let effect = write_effects::effect_of(bytes, register, value);
+    Wrote {
         no: refusals::ACCEPTED,
+        changed: effect.changed,
+        restarted: effect.restarted,
+    }
+}
+
+// No and no.
+fn nothing_written(no: u8) -> Wrote
+    ensures { λ r. ⌜ r ≡ wrote no false false ⌝ }
+{
+    Wrote {
+        no,
+        changed: false,
+        restarted: false,
     }
 }

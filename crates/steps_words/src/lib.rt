@@ -1,4 +1,5 @@
-// One word by itself, on the parts of a record that it reads and changes: `ok` is the test of the record. 01, "One tick, one word".
+// One word by itself, on the parts of a record that it reads and changes: `ok` is the test of the record. 01, "One tick, one
+// word"; 02, request 03.
 ghost use mathlib.Core.Path.{_≡_};
 ghost use mathlib.Core.Bool.{true};
 ghost use Rattle.queue.specs.Waiting.{ring};
@@ -53,6 +54,7 @@ pub fn compute_next_sample<'t>(
     if no != refusals::ACCEPTED {
         return unplayed(voice, channels, accumulator, start, head, count, no);
     }
+    let bytes = voice.registers;
     let table = tables::level_table();
     let core = Core {
         clocks,
@@ -66,10 +68,13 @@ pub fn compute_next_sample<'t>(
     };
     let worded = clocking_word::word(core, stamps, registers, values, head, count, &table);
     let after = worded.core;
+    let told = queue_effects::effects(registers, values, head, count - worded.count, bytes);
     let answer = Sample {
         no: refusals::ACCEPTED,
         word: worded.word,
         ticks: worded.ticks as u64,
+        changed: told.changed,
+        restarted: told.restarted,
     };
     let voice = after.voice;
     let channels = after.channels;
@@ -84,7 +89,7 @@ pub fn compute_next_sample<'t>(
     }
 }
 
-// Nothing changes, word 0, 0 ticks.
+// Nothing changes: word 0, 0 ticks, 0 and 0.
 fn unplayed(
     voice: Voice,
     channels: Channels,
@@ -100,6 +105,8 @@ fn unplayed(
         no: number,
         word: 0,
         ticks: 0,
+        changed: 0,
+        restarted: 0,
     };
     WordStep {
         voice,

@@ -111,6 +111,7 @@ pub struct Ym2149 {
     /// CPU cycle at start of current sample
     sample_start_cycle: u64,
     ticks: Ticks, // oracle
+    effects: Effects, // oracle
 }
 
 impl Ym2149 {
@@ -155,6 +156,7 @@ impl Ym2149 {
             cpu_cycles_per_sample,
             sample_start_cycle: 0,
             ticks: Ticks::default(), // oracle
+            effects: Effects::default(), // oracle
         };
         chip.reset();
         chip
@@ -352,7 +354,9 @@ impl Ym2149 {
 
         // Mask value to valid bits
         let value = value & REG_MASK[register];
+        let before = self.registers[register]; // oracle
         self.registers[register] = value;
+        self.effects.stored(before, self.registers[register]); // oracle
 
         match register {
             // Tone period registers (2 registers per channel)
@@ -386,6 +390,7 @@ impl Ym2149 {
             // Envelope shape (R13)
             13 => {
                 self.envelope_generator.set_shape(value);
+                self.effects.restart(); // oracle
             }
 
             _ => {}
@@ -559,7 +564,7 @@ impl Ym2149 {
 // =============================================================================
 
 // =============================================================================
-// Oracle: views and setters of private fields, and the counter of ticks. Nothing above reads or calls them.
+// Oracle: views and setters of private fields, and the counters of ticks and of what writes did. Nothing above reads or calls them.
 // =============================================================================
 
 /// Ticks run since the chip was made. The plain build, which is timed, does not count them.
@@ -575,9 +580,39 @@ impl Ticks {
     }
 }
 
+/// What applied writes did since this was last taken (02, request 03). The plain build does not count it either.
+#[derive(Clone, Copy, Debug, Default, PartialEq, Eq)]
+pub struct Effects {
+    /// How many changed the stored byte.
+    pub changed: u32,
+    /// How many restarted the envelope.
+    pub restarted: u32,
+}
+
+impl Effects {
+    #[inline]
+    fn stored(&mut self, before: u8, after: u8) {
+        if cfg!(not(feature = "plain")) {
+            self.changed += (before != after) as u32;
+        }
+    }
+
+    #[inline]
+    fn restart(&mut self) {
+        if cfg!(not(feature = "plain")) {
+            self.restarted += 1;
+        }
+    }
+}
+
 impl Ym2149 {
     pub fn ticks(&self) -> u64 {
         self.ticks.0
+    }
+
+    /// They count from 0 again.
+    pub fn take_effects(&mut self) -> Effects {
+        std::mem::take(&mut self.effects)
     }
 
     /// Internal clock, sample rate, CPU cycles to a word.

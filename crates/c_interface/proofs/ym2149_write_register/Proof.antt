@@ -6,9 +6,9 @@ use Rattle.lent_walks.proofs.Stored as stored
 use Rattle.lent_record.proofs.in_range.Symbol as t
 use Rattle.lent_record.proofs.in_range.Met as t-thm
 use Rattle.chip.specs.Range.{chipIn}
-use Rattle.calls_registers.specs.Stored.{writeRegister}
+use Rattle.calls_registers.specs.Stored.{wroteRegister}
 use Rattle.c_record.specs.Record.{chipOf}
-use Rattle.c_calls.specs.Calls.{onRecord}
+use Rattle.c_calls.specs.Calls.{writeOn}
 use Rattle.c_steps.proofs.write_register.Symbol as g
 use Rattle.c_steps.proofs.write_register.Met as g-thm
 use Rattle.c_interface.proofs.Voices.{parts, reply, laid, stepWrite, write-split}
@@ -19,5 +19,5 @@ use Rattle.c_interface.proofs.ym2149_write_register.Code as code
 pub ym2149-write-register-spec : {M : Type 1} → statement M
 unfolding code.routine
 ym2149-write-register-spec 𝓤 H 𝓜 𝓖 𝓡 =
-    stored.spec (u8f ∷ u8f ∷ []) parts reply (λ x. chipIn (chipOf x)) stepWrite (λ x a. onRecord (writeRegister (a .0) (a .1 .0)) x .no) (λ x a. onRecord (writeRegister (a .0) (a .1 .0)) x .chip) 𝓤 H 𝓜 𝓖 𝓡 code.env write-split laid
+    stored.spec (u8f ∷ u8f ∷ []) parts reply (λ x. chipIn (chipOf x)) stepWrite (λ x a. writeOn (wroteRegister (a .0) (a .1 .0)) x .answer) (λ x a. writeOn (wroteRegister (a .0) (a .1 .0)) x .chip) 𝓤 H 𝓜 𝓖 𝓡 code.env write-split laid
     key.name t.name g.name t.routine g.routine (code.unfolded 𝓤 H 𝓜 𝓡) refl (t-thm.met 𝓤 H 𝓜 𝓖 𝓡) refl (g-thm.met 𝓤 H 𝓜 𝓖 𝓡)

@@ -17,7 +17,7 @@ settled-requires-3 : tie.Need-settled-requires-3
 settled-requires-3 c κs = search needs
 
 returns : tie.Need-returns
-returns c = record-left _ _ _ (c .before .before .before .before .flush-pending-writes .ensures) (c .before .before .settled .ensures) (c .before .settled2 .ensures) (c .settled3 .ensures)
+returns c = record-left _ _ _ (c .before .before .before .before .before .flush-pending-writes .ensures) (c .before .before .settled .ensures) (c .before .settled2 .ensures) (c .settled3 .ensures)
 
 pub flush-pending-writes-spec : {M : Type 1} → statement M
 flush-pending-writes-spec =

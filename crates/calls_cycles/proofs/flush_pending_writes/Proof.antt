@@ -18,7 +18,7 @@ flush-pending-writes-requires c κs = λ ok.
     passed (laid (tested .before)) (sym (tested .in-range .ensures) ∙ ok) .queue
 
 returns : tie.Need-returns
-returns c = rw (c .before .flush-pending-writes .ensures, c .before .before .before .before .before .before .before .before .in-range .ensures) (flush-set _)
+returns c = rw (c .before .before .flush-pending-writes .ensures, c .before .before .before .before .before .before .before .before .before .in-range .ensures) (flush-set _)
 
 pub flush-pending-writes-spec : {M : Type 1} → statement M
 flush-pending-writes-spec = tie.close (tie.spec in-range-requires flush-pending-writes-requires returns)

@@ -17,7 +17,7 @@ with-selection-requires : tie.Need-with-selection-requires
 with-selection-requires c κs = search needs
 
 returns : tie.Need-returns
-returns c = rw (c .with-selection .ensures, c .before .with-voice .ensures, c .before .before .write-port-immediate .ensures, c .before .before .before .in-range .ensures) (written-set _ _ _)
+returns c = rw (c .before .with-selection .ensures, c .before .before .with-voice .ensures, c .before .before .before .write-port-immediate .ensures, c .before .before .before .before .in-range .ensures) (written-set _ _ _)
 
 pub write-port-immediate-spec : {M : Type 1} → statement M
 write-port-immediate-spec = tie.close (tie.spec in-range-requires write-port-immediate-requires with-voice-requires with-selection-requires returns)

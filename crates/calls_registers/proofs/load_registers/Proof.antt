@@ -14,7 +14,7 @@ with-voice-requires : tie.Need-with-voice-requires
 with-voice-requires c κs = search needs
 
 returns : tie.Need-returns
-returns c = rw (c .with-voice .ensures, c .before .load-registers .ensures, c .before .before .in-range .ensures) (load-set _ _)
+returns c = rw (c .before .with-voice .ensures, c .before .before .load-registers .ensures, c .before .before .before .in-range .ensures) (load-set _ _)
 
 pub load-registers-spec : {M : Type 1} → statement M
 load-registers-spec = tie.close (tie.spec in-range-requires load-registers-requires with-voice-requires returns)

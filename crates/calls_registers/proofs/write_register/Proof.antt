@@ -14,7 +14,7 @@ with-voice-requires : tie.Need-with-voice-requires
 with-voice-requires c κs = search needs
 
 returns : tie.Need-returns
-returns c = rw (c .with-voice .ensures, c .before .write-register .ensures, c .before .before .in-range .ensures) (write-set _ _ _)
+returns c = rw (c .before .with-voice .ensures, c .before .before .write-register .ensures, c .before .before .before .in-range .ensures) (write-set _ _ _)
 
 pub write-register-spec : {M : Type 1} → statement M
 write-register-spec = tie.close (tie.spec in-range-requires write-register-requires with-voice-requires returns)

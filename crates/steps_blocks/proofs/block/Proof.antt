@@ -9,7 +9,7 @@ use Rattle.queue.specs.Waiting.{ring}
 use Rattle.block_limits.proofs.Fits.{fits}
 use Rattle.clocking_block.specs.Block.{chipWith}
 use Rattle.steps_words.specs.WordSteps.{Playable}
-use Rattle.steps_blocks.proofs.Cases.{step-out, step-late, step-played, buffer-out, buffer-late, buffer-filled}
+use Rattle.steps_blocks.proofs.Cases.{few, step-out, step-late, step-played, buffer-out, buffer-late, buffer-filled}
 use Rattle.steps_blocks.proofs.block.Statement.{statement}
 use Rattle.steps_blocks.proofs.block.Tie as tie
 
@@ -40,21 +40,28 @@ returns-2 c =
 
 render-requires : tie.Need-render-requires
 render-requires c κs =
-    let soon = c .before in
+    let soon = c .before .before .before in
     let s = sound (soon .before .before) in
     let f = fits _ _ _ (sym (soon .before .block-no .ensures) ∙ soon .if2 .left) in
     (s .0, (s .1, (f .short, f .soon)))
+
+-- what the block left to wait is no more than waited
+sub-effects : tie.Need-sub-effects
+sub-effects c = few _ _ (c .before .before .before .before .render .ensures .0)
+
+effects-requires : tie.Need-effects-requires
+effects-requires c κs = let q = sound (c .before .before .before .before .before .before .before .before .before .before) .1 in (q .head, omega (arith, q .count))
 
 same-length : tie.Need-same-length
 same-length c = search needs
 
 returns-3 : tie.Need-returns-3
 returns-3 c =
-    let played = c .before .before .before in
-    let soon = played .before .before in
+    let played = c .before .before .before .before .before in
+    let soon = played .before .before .before .before in
     let passed = soon .before .before .if1 .left in
     let number = soon .before .block-no .ensures in
-    (step-played _ _ _ passed number (soon .if2 .left) (played .render .ensures .0), buffer-filled _ _ _ passed number (soon .if2 .left) (played .render .ensures .1))
+    (step-played _ _ _ passed number (soon .if2 .left) (played .render .ensures .0) (c .effects .ensures), buffer-filled _ _ _ passed number (soon .if2 .left) (played .render .ensures .1))
 
 pub block-spec : {M : Type 1} → statement M
 block-spec =
@@ -66,5 +73,7 @@ block-spec =
     unrendered-requires-2
     returns-2
     render-requires
+    sub-effects
+    effects-requires
     same-length
     returns-3)

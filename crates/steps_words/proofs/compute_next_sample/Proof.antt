@@ -7,7 +7,7 @@ use denote.Ref.{now}
 use Rattle.queue.specs.Waiting.{ring}
 use Rattle.block_limits.proofs.Fits.{fits}
 use Rattle.steps_words.specs.WordSteps.{chipAt, Playable}
-use Rattle.steps_words.proofs.Cases.{step-out, step-late, step-played}
+use Rattle.steps_words.proofs.Cases.{no-more, step-out, step-late, step-played}
 use borrow.Author.Needs.{needs}
 use Rattle.steps_words.proofs.compute_next_sample.Statement.{statement}
 use Rattle.steps_words.proofs.compute_next_sample.Tie as tie
@@ -41,19 +41,27 @@ level-table-requires c κs = search needs
 
 word-requires : tie.Need-word-requires
 word-requires c κs =
-    let late = c .before .before in
+    let late = c .before .before .before in
     let s = sound (late .before .before) in
     let f = fits _ _ _ (sym (late .before .block-no .ensures) ∙ late .if2 .left) in
     (s .0, (s .1, (one-soon _ _ (f .soon), c .before .level-table .ensures)))
 
-cast-t24 : tie.Need-cast-t24
-cast-t24 c = search needs
+-- what the word left to wait is no more than waited
+sub-effects : tie.Need-sub-effects
+sub-effects c = no-more _ (c .before .before .word .ensures)
+
+effects-requires : tie.Need-effects-requires
+effects-requires c κs = let q = sound (c .before .before .before .before .before .before .before .before) .1 in (q .head, omega (arith, q .count))
+
+cast-t27 : tie.Need-cast-t27
+cast-t27 c = search needs
 
 returns-3 : tie.Need-returns-3
 returns-3 c =
-    let w = c .before .before .before .before in
-    let late = w .before .before .before in
-    step-played _ _ (late .before .before .if1 .left) (late .before .block-no .ensures) (late .if2 .left) (w .word .ensures)
+    let counted = c .before .before .before in
+    let w = counted .before .before .before in
+    let late = w .before .before .before .before in
+    step-played _ _ (late .before .before .if1 .left) (late .before .block-no .ensures) (late .if2 .left) (w .word .ensures) (counted .effects .ensures)
 
 pub compute-next-sample-spec : {M : Type 1} → statement M
 compute-next-sample-spec =
@@ -66,5 +74,7 @@ compute-next-sample-spec =
     returns-2
     level-table-requires
     word-requires
-    cast-t24
+    sub-effects
+    effects-requires
+    cast-t27
     returns-3)

@@ -52,7 +52,7 @@ pub fn words(bench: &Bench, length: u64) -> Vec<Due> {
 type IsSo = fn(&Due, &Bench) -> bool;
 
 #[rustfmt::skip]
-pub const KINDS: [(&str, IsSo); 16] = [
+pub const KINDS: [(&str, IsSo); 18] = [
     ("words with writes due", |_, _| true),
     ("due in one word: 2 or more", |due, _| due.writes.len() >= 2),
     ("due in one word: 8 or more", |due, _| due.writes.len() >= 8),
@@ -64,6 +64,8 @@ pub const KINDS: [(&str, IsSo); 16] = [
     ("due in one word: R7 twice or more", |due, _| due.values(GATES).len() > 1),
     ("due in one word: R13 twice or more, of one shape", |due, _| due.shapes_differ() == Some(false)),
     ("due in one word: R13 twice or more, of several", |due, _| due.shapes_differ() == Some(true)),
+    ("due in one word: some that change no byte", |due, _| due.changes().contains(&false)),
+    ("due in one word: a byte that changes and comes back", |due, _| due.comes_back()),
     ("due in one word: both bytes of a period, the low first", |due, _| due.has_both_bytes(true)),
     ("due in one word: both bytes of a period, the high first", |due, _| due.has_both_bytes(false)),
     ("due in one word: a tone's period to its counter or below", Due::lowers_a_tone),
@@ -79,6 +81,20 @@ fn period(stored: &[u8; 16], pair: Pair) -> u32 {
 impl Due {
     fn values(&self, register: u8) -> Vec<u8> {
         self.writes.iter().filter(|(written, _)| *written == register).map(|(_, value)| *value).collect()
+    }
+
+    /// Whether each changes its byte; 14 and 15 have none.
+    fn changes(&self) -> Vec<bool> {
+        let written = self.writes.iter().zip(self.stored.windows(2)).filter(|((register, _), _)| *register < 14);
+        written.map(|(_, stored)| stored[0] != stored[1]).collect()
+    }
+
+    /// The bytes ahead of the word and after it do not tell how many changed.
+    fn comes_back(&self) -> bool {
+        let (first, last) = (self.stored[0], self.stored[self.stored.len() - 1]);
+        (0..14).any(|register| {
+            first[register] == last[register] && self.stored.iter().any(|stored| stored[register] != first[register])
+        })
     }
 
     /// None where R13 is not due twice.

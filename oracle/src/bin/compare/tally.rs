@@ -7,6 +7,7 @@ use oracle::dump::{play, read};
 use oracle::refusal::{ACCEPTED, NO_SUCH_CHANNEL, QUEUE_FULL, QUEUE_MAX, VARIANT_MAX};
 use oracle::script::Bench;
 use oracle::set::Field;
+use oracle::tables::REG_MASK;
 use oracle::text::Refused;
 use std::collections::{BTreeMap, BTreeSet};
 
@@ -72,11 +73,21 @@ impl Tally {
             Call::Drum(_, Some(sample)) => self.drum(sample),
             Call::New(..) | Call::Make(..) | Call::Default | Call::Reset => self.moved = false,
             Call::Set(Field::Head | Field::Count, _) => self.moved = true,
+            Call::Write(register @ 0..14, value) if bench.in_range() => self.write(register, value, bench),
             Call::Word if bench.in_range() => self.block(1, bench),
             Call::Block(length) if bench.in_range() => self.block(length as u64, bench),
             _ => {}
         }
         call
+    }
+
+    fn write(&mut self, register: u8, value: u8, bench: &Bench) {
+        let stored = bench.chip.read_register(register);
+        self.count(match value & REG_MASK[register as usize] {
+            masked if masked != stored => "`write` of another byte",
+            _ if value != stored => "`write` of the stored byte, with bits above its mask",
+            _ => "`write` of the stored byte",
+        });
     }
 
     fn drum(&mut self, sample: f32) {

@@ -1,0 +1,12 @@
+pub mod Bytes
+pub mod Restarts
+pub mod OneCall
+pub mod ManyWrites
+pub mod Words
+pub mod Parts
+pub mod WordByWord
+pub mod OneByOne
+pub mod Reports
+pub mod Noted
+pub mod Ledger
+pub mod Table

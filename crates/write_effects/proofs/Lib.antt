@@ -1,0 +1,3 @@
+pub mod OneWrite
+pub mod Differing
+pub mod Laws
