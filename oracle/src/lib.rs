@@ -19,6 +19,7 @@ pub mod due_cases;
 pub mod dump;
 pub mod effect_cases;
 pub mod lines;
+pub mod noise_loops;
 pub mod random;
 pub mod range;
 pub mod refusal;

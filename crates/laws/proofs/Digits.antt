@@ -7,7 +7,7 @@ use lib.Arith.{bin-ind, digits-div, digits-mod}
 use lib.Bits.{bitAnd, bitOr, bitXor, differ, and-step, or-step, xor-step}
 use lib.Dec.{lit<}
 
-bit-lt : (n : ℕ) → n % 2 < 2
+pub bit-lt : (n : ℕ) → n % 2 < 2
 bit-lt n = omega arith
 
 differ-lt : (x y : ℕ) → x < 2 → y < 2 → differ x y < 2
@@ -69,10 +69,10 @@ and-half a b = ap (λ (x : ℕ). x / 2) (and-step a b) ∙ digits-div (bitAnd (a
 and-odd : (a b : ℕ) → bitAnd a b % 2 ≡ min (a % 2) (b % 2)
 and-odd a b = ap (λ (x : ℕ). x % 2) (and-step a b) ∙ digits-mod (bitAnd (a / 2) (b / 2)) (min-lt (a % 2) (b % 2) (bit-lt a))
 
-xor-half : (a b : ℕ) → bitXor a b / 2 ≡ bitXor (a / 2) (b / 2)
+pub xor-half : (a b : ℕ) → bitXor a b / 2 ≡ bitXor (a / 2) (b / 2)
 xor-half a b = ap (λ (x : ℕ). x / 2) (xor-step a b) ∙ digits-div (bitXor (a / 2) (b / 2)) (differ-lt (a % 2) (b % 2) (bit-lt a) (bit-lt b))
 
-xor-odd : (a b : ℕ) → bitXor a b % 2 ≡ differ (a % 2) (b % 2)
+pub xor-odd : (a b : ℕ) → bitXor a b % 2 ≡ differ (a % 2) (b % 2)
 xor-odd a b = ap (λ (x : ℕ). x % 2) (xor-step a b) ∙ digits-mod (bitXor (a / 2) (b / 2)) (differ-lt (a % 2) (b % 2) (bit-lt a) (bit-lt b))
 
 or-half : (a b : ℕ) → bitOr a b / 2 ≡ bitOr (a / 2) (b / 2)

@@ -56,10 +56,10 @@ module _ {a b : Bool} {u v w : Voice} (f : Leaves a u v) (g : Leaves b v w) wher
   leaves-some : Leaves true u w
   leaves-some = record { register = g .register ∙ f .register; output = g .output ∙ f .output; position = λ e. cc }
 
-abbrev Same : Generators → Generators → Type 0
+abbrev pub Same : Generators → Generators → Type 0
 Same g x = (x .noise ≡ g .noise) × (x .envelope ≡ g .envelope)
 
-put-same : (n : ℕ) (t : Tone) (g : Generators) → Same g (putTone n t g)
+pub put-same : (n : ℕ) (t : Tone) (g : Generators) → Same g (putTone n t g)
 unfolding putTone
 put-same n t g =
     by-eq (Same g) n 0 (λ _. (refl, refl))
