@@ -1,4 +1,6 @@
 // All registers at once: new, reset, or loaded. 01, "Power-on and reset" and "Registers and ports"; the crate's chip.rs.
+#![tactic(auto)]
+
 ghost use Rattle.std.specs.Prelude.{◌≡◌};
 ghost use Rattle.registers.specs.Writes.{loaded};
 ghost use Rattle.all_registers.specs.Reset.{voice_reset, voice_new};

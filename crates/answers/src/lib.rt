@@ -1,4 +1,6 @@
 // What the calls of the chip answer. 01, "Numbers a call can answer".
+#![tactic(auto)]
+
 ghost use Rattle.std.specs.Prelude.{◌≡◌};
 ghost use Rattle.refusals.specs.Numbers.{accepted, out_of_range};
 ghost use Rattle.answers.specs.Answers.{answered};
@@ -6,49 +8,49 @@ ghost use Rattle.answers.specs.Answers.{answered};
 use chip::Chip;
 
 // The chip after a call, and the call's number.
-#[derive(Drop)]
+#[derive(Clone, Copy)]
 pub struct Answered {
     pub chip: Chip,
     pub no: u8,
 }
 
 #[repr(C)]
-#[derive(Drop)]
+#[derive(Clone, Copy)]
 pub struct Byte {
     pub no: u8,
     pub value: u8,
 }
 
 #[repr(C)]
-#[derive(Drop)]
+#[derive(Clone, Copy)]
 pub struct Bytes {
     pub no: u8,
     pub bytes: [u8; 16],
 }
 
 #[repr(C)]
-#[derive(Drop)]
+#[derive(Clone, Copy)]
 pub struct Cycle {
     pub no: u8,
     pub cycle: u64,
 }
 
 #[repr(C)]
-#[derive(Drop)]
+#[derive(Clone, Copy)]
 pub struct Count {
     pub no: u8,
     pub count: usize,
 }
 
 #[repr(C)]
-#[derive(Drop)]
+#[derive(Clone, Copy)]
 pub struct Flag {
     pub no: u8,
     pub yes: bool,
 }
 
 #[repr(C)]
-#[derive(Drop)]
+#[derive(Clone, Copy)]
 pub struct Outputs {
     pub no: u8,
     pub a: f32,
@@ -58,14 +60,14 @@ pub struct Outputs {
 
 // What one register write changed. 02, request 03.
 #[repr(C)]
-#[derive(Drop)]
+#[derive(Clone, Copy)]
 pub struct Wrote {
     pub no: u8,
     pub changed: bool,
     pub restarted: bool,
 }
 
-#[derive(Drop)]
+#[derive(Clone, Copy)]
 pub struct Written {
     pub chip: Chip,
     pub answer: Wrote,
@@ -73,21 +75,21 @@ pub struct Written {
 
 // How many of the applied writes changed a byte, and how many restarted the envelope.
 #[repr(C)]
-#[derive(Drop)]
+#[derive(Clone, Copy)]
 pub struct Counts {
     pub no: u8,
     pub changed: u32,
     pub restarted: u32,
 }
 
-#[derive(Drop)]
+#[derive(Clone, Copy)]
 pub struct Applied {
     pub chip: Chip,
     pub answer: Counts,
 }
 
 #[repr(C)]
-#[derive(Drop)]
+#[derive(Clone, Copy)]
 pub struct Sample {
     pub no: u8,
     pub word: u16,
@@ -96,14 +98,14 @@ pub struct Sample {
     pub restarted: u32,
 }
 
-#[derive(Drop)]
+#[derive(Clone, Copy)]
 pub struct Sampled {
     pub chip: Chip,
     pub answer: Sample,
 }
 
 #[repr(C)]
-#[derive(Drop)]
+#[derive(Clone, Copy)]
 pub struct Played {
     pub no: u8,
     pub words: usize,
@@ -112,7 +114,7 @@ pub struct Played {
     pub restarted: u32,
 }
 
-#[derive(Drop)]
+#[derive(Clone, Copy)]
 pub struct Blocked {
     pub chip: Chip,
     pub answer: Played,

@@ -1,4 +1,6 @@
 // The limits of a block: refusals 5 and 6. 01, "Numbers a call can answer".
+#![tactic(auto)]
+
 ghost use Rattle.std.specs.Prelude.{◌≡◌, ◌≤◌};
 ghost use Rattle.block_limits.specs.Limits.{block_number};
 

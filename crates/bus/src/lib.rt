@@ -1,4 +1,6 @@
 // A write on the bus, passed to the chip's ports at its cycle. 02, request 01.
+#![tactic(auto)]
+
 ghost use Rattle.std.specs.Prelude.{◌≡◌};
 ghost use Rattle.answers.specs.Answers.{answered};
 ghost use Rattle.bus.specs.Passing.{pass_write};

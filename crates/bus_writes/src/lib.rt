@@ -1,8 +1,10 @@
 // A write on the cabinet's bus: which port, which byte, at which cycle; and the words before which it is due. 02, request 01.
+#![tactic(auto)]
+
 ghost use Rattle.std.specs.Prelude.{◌≡◌};
 ghost use Rattle.bus_writes.specs.Due.{is_due, words_before};
 
-#[derive(Drop)]
+#[derive(Clone, Copy)]
 pub struct BusWrite {
     pub stamp: u64,
     pub port: u8,

@@ -1,4 +1,6 @@
 // A block on the parts of a host's record, by value. 01, "One tick, one word".
+#![tactic(auto)]
+
 ghost use Rattle.std.specs.Prelude.{◌≡◌, true, length};
 ghost use Rattle.queue.specs.Waiting.{ring};
 ghost use Rattle.clocking_block.specs.Block.{chip_with};
@@ -12,7 +14,7 @@ use c_record::RecordCore;
 use chip::Core;
 
 // What a block changes of a host's record, to store, and the call's answer; the ring's slots are as they were.
-#[derive(Drop)]
+#[derive(Clone, Copy)]
 pub struct RecordBlock {
     pub core: RecordCore,
     pub head: usize,
@@ -50,6 +52,7 @@ pub fn block<'t, 'o>(
 }
 
 // A refused call leaves the core as it was, in every byte.
+#[tactic(auto, unfolding(crate::specs::RecordBlocks::left_of))]
 fn left(no: u8, before: RecordCore, after: Core) -> RecordCore
     ensures { result ≡ left_of no before after }
 {

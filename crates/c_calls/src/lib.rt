@@ -1,5 +1,7 @@
 // The call on a host's record, by value, that `c_interface` makes on a copy of it: makings have `c_making`, words `c_words`, and what
 // changes or reads parts of it `c_steps`, `c_queue` and `steps_*`.
+#![tactic(auto)]
+
 ghost use Rattle.std.specs.Prelude.{◌≡◌};
 ghost use Rattle.c_calls.specs.Calls.{on_record};
 ghost use Rattle.calls_making.specs.Making.{reset_call};

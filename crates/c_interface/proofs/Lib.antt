@@ -1,10 +1,5 @@
-pub mod Making
-pub mod Ports
-pub mod Stamps
-pub mod Flushing
-pub mod Voices
-pub mod Said
-pub mod Sampling
-pub mod Effects
-pub mod Mutes
-pub mod Blocking
+mod Blocking
+mod Flushing
+mod Mutes
+mod Ports
+mod Sampling

@@ -1,6 +1,8 @@
-// For C and Rust to link (`rt staticlib c_interface`): the calls of `cabinet` and of `cabinet_words` on a record that the host owns and
-// lends. Each answers 01's number, alone or as the first field of its answer. include/ym2149.h declares them.
+// The calls of `cabinet` and of `cabinet_words` on a record that a C or Rust host owns and lends. Each answers 01's number, alone or as the
+// first field of its answer. `c_interface_c` exports them, and include/ym2149.h declares them.
 // Calls that only read take `&Record` and stand last.
+#![tactic(auto)]
+
 ghost use Rattle.std.specs.Prelude.{◌≡◌, length};
 ghost use Rattle.answers.specs.Answers.{answered};
 ghost use Rattle.refusals.specs.Numbers.{accepted};
@@ -20,9 +22,9 @@ use answers::{Byte, Bytes, Count, Counts, Cycle, Flag, Outputs, Played, Sample, 
 use c_record::{Record, RecordDrum, Registers};
 
 // A default chip.
-#[unsafe(no_mangle)]
-pub extern "C" fn ym2149_new(chip: &mut Record) -> u8
-    ensures { (result ≡ (new_record (answered accepted fresh)).no) × (chip.new ≡ (new_record (answered accepted fresh)).chip) }
+pub fn ym2149_new(chip: &mut Record) -> u8
+    ensures answer { result ≡ (new_record (answered accepted fresh)).no }
+    ensures left { chip.new ≡ (new_record (answered accepted fresh)).chip }
 {
     let r = c_making::new();
     *chip = r.chip;
@@ -30,9 +32,9 @@ pub extern "C" fn ym2149_new(chip: &mut Record) -> u8
 }
 
 // Refused clocks give a fresh default chip.
-#[unsafe(no_mangle)]
-pub extern "C" fn ym2149_with_clocks(chip: &mut Record, master: u32, rate: u32) -> u8
-    ensures { (result ≡ (new_record (with_clocks master rate)).no) × (chip.new ≡ (new_record (with_clocks master rate)).chip) }
+pub fn ym2149_with_clocks(chip: &mut Record, master: u32, rate: u32) -> u8
+    ensures answer { result ≡ (new_record (with_clocks master rate)).no }
+    ensures left { chip.new ≡ (new_record (with_clocks master rate)).chip }
 {
     let r = c_making::with_clocks(master, rate);
     *chip = r.chip;
@@ -40,30 +42,28 @@ pub extern "C" fn ym2149_with_clocks(chip: &mut Record, master: u32, rate: u32) 
 }
 
 // So does a refused variant.
-#[unsafe(no_mangle)]
-pub extern "C" fn ym2149_with_variant(chip: &mut Record, master: u32, rate: u32, variant: u8) -> u8
-    ensures { (result ≡ (new_record (with_variant master rate variant)).no)
-        × (chip.new ≡ (new_record (with_variant master rate variant)).chip) }
+pub fn ym2149_with_variant(chip: &mut Record, master: u32, rate: u32, variant: u8) -> u8
+    ensures answer { result ≡ (new_record (with_variant master rate variant)).no }
+    ensures left { chip.new ≡ (new_record (with_variant master rate variant)).chip }
 {
     let r = c_making::with_variant(master, rate, variant);
     *chip = r.chip;
     r.no
 }
 
-#[unsafe(no_mangle)]
-pub extern "C" fn ym2149_reset(chip: &mut Record) -> u8
-    ensures { (result ≡ (on_record reset_call chip.old).no)
-        × (chip.new ≡ (on_record reset_call chip.old).chip) }
+pub fn ym2149_reset(chip: &mut Record) -> u8
+    ensures answer { result ≡ (on_record reset_call chip.old).no }
+    ensures left { chip.new ≡ (on_record reset_call chip.old).chip }
 {
     let r = c_calls::reset(*chip);
     *chip = r.chip;
     r.no
 }
 
-#[unsafe(no_mangle)]
-pub extern "C" fn ym2149_write_register(chip: &mut Record, register: u8, value: u8) -> Wrote
-    ensures { (result ≡ (write_on (wrote_register register value) chip.old).answer)
-        × (chip.new ≡ (write_on (wrote_register register value) chip.old).chip) }
+#[tactic(auto, unfolding(calls_registers::specs::Stored::wrote_register, calls_registers::specs::Stored::write_register, steps_voice::specs::VoiceSteps::voiced, c_record::specs::Record::core_of, c_record::specs::Record::record_core, c_told::specs::Told::lent_back, c_steps::specs::RecordSteps::settled))]
+pub fn ym2149_write_register(chip: &mut Record, register: u8, value: u8) -> Wrote
+    ensures answer { result ≡ (write_on (wrote_register register value) chip.old).answer }
+    ensures left { chip.new ≡ (write_on (wrote_register register value) chip.old).chip }
 {
     let ok = lent_record::in_range(&*chip);
     let written = c_steps::write_register(
@@ -82,10 +82,10 @@ pub extern "C" fn ym2149_write_register(chip: &mut Record, register: u8, value: 
     written.answer
 }
 
-#[unsafe(no_mangle)]
-pub extern "C" fn ym2149_load_registers(chip: &mut Record, registers: Registers) -> Counts
-    ensures { (result ≡ (apply_on (loaded_registers registers.bytes) chip.old).answer)
-        × (chip.new ≡ (apply_on (loaded_registers registers.bytes) chip.old).chip) }
+#[tactic(auto, unfolding(calls_registers::specs::Stored::loaded_registers, calls_registers::specs::Stored::load_registers, steps_voice::specs::VoiceSteps::voiced_all, c_record::specs::Record::core_of, c_record::specs::Record::record_core, c_told::specs::Told::lent_back, c_steps::specs::RecordSteps::settled))]
+pub fn ym2149_load_registers(chip: &mut Record, registers: Registers) -> Counts
+    ensures answer { result ≡ (apply_on (loaded_registers registers.bytes) chip.old).answer }
+    ensures left { chip.new ≡ (apply_on (loaded_registers registers.bytes) chip.old).chip }
 {
     let ok = lent_record::in_range(&*chip);
     let loaded = c_steps::load_registers(
@@ -103,10 +103,9 @@ pub extern "C" fn ym2149_load_registers(chip: &mut Record, registers: Registers)
     loaded.answer
 }
 
-#[unsafe(no_mangle)]
-pub extern "C" fn ym2149_write_port(chip: &mut Record, port: u8, value: u8) -> u8
-    ensures { (result ≡ (on_record (write_port port value) chip.old).no)
-        × (chip.new ≡ (on_record (write_port port value) chip.old).chip) }
+pub fn ym2149_write_port(chip: &mut Record, port: u8, value: u8) -> u8
+    ensures answer { result ≡ (on_record (write_port port value) chip.old).no }
+    ensures left { chip.new ≡ (on_record (write_port port value) chip.old).chip }
 {
     let ok = lent_record::in_range(&*chip);
     let queued = c_steps::write_port(
@@ -132,10 +131,10 @@ pub extern "C" fn ym2149_write_port(chip: &mut Record, port: u8, value: u8) -> u
     queued.no
 }
 
-#[unsafe(no_mangle)]
-pub extern "C" fn ym2149_write_port_immediate(chip: &mut Record, port: u8, value: u8) -> Wrote
-    ensures { (result ≡ (write_on (wrote_port_immediate port value) chip.old).answer)
-        × (chip.new ≡ (write_on (wrote_port_immediate port value) chip.old).chip) }
+#[tactic(auto, unfolding(calls_ports::specs::Ports::wrote_port_immediate, calls_ports::specs::Ports::write_port_immediate, steps_voice::specs::VoiceSteps::port_written, c_record::specs::Record::core_of, c_record::specs::Record::record_core, c_told::specs::Told::lent_back, c_steps::specs::RecordSteps::settled))]
+pub fn ym2149_write_port_immediate(chip: &mut Record, port: u8, value: u8) -> Wrote
+    ensures answer { result ≡ (write_on (wrote_port_immediate port value) chip.old).answer }
+    ensures left { chip.new ≡ (write_on (wrote_port_immediate port value) chip.old).chip }
 {
     let ok = lent_record::in_range(&*chip);
     let port_written = c_steps::write_port_immediate(
@@ -156,10 +155,10 @@ pub extern "C" fn ym2149_write_port_immediate(chip: &mut Record, port: u8, value
     port_written.answer
 }
 
-#[unsafe(no_mangle)]
-pub extern "C" fn ym2149_set_cpu_cycle(chip: &mut Record, cycle: u64) -> u8
-    ensures { (result ≡ (on_record (set_cpu_cycle cycle) chip.old).no)
-        × (chip.new ≡ (on_record (set_cpu_cycle cycle) chip.old).chip) }
+#[tactic(auto, unfolding(calls_cycles::specs::Cycles::set_cpu_cycle, steps_cycles::specs::CycleSteps::stamp_set, c_record::specs::Record::core_of, c_record::specs::Record::record_core, c_told::specs::Told::lent_back, c_steps::specs::RecordSteps::settled))]
+pub fn ym2149_set_cpu_cycle(chip: &mut Record, cycle: u64) -> u8
+    ensures answer { result ≡ (on_record (set_cpu_cycle cycle) chip.old).no }
+    ensures left { chip.new ≡ (on_record (set_cpu_cycle cycle) chip.old).chip }
 {
     let ok = lent_record::in_range(&*chip);
     let r = c_steps::set_cpu_cycle(
@@ -177,10 +176,10 @@ pub extern "C" fn ym2149_set_cpu_cycle(chip: &mut Record, cycle: u64) -> u8
     r.no
 }
 
-#[unsafe(no_mangle)]
-pub extern "C" fn ym2149_sync_sample_cycle(chip: &mut Record, cycle: u64) -> u8
-    ensures { (result ≡ (on_record (sync_sample_cycle cycle) chip.old).no)
-        × (chip.new ≡ (on_record (sync_sample_cycle cycle) chip.old).chip) }
+#[tactic(auto, unfolding(calls_cycles::specs::Cycles::sync_sample_cycle, steps_cycles::specs::CycleSteps::both_set, c_record::specs::Record::core_of, c_record::specs::Record::record_core, c_told::specs::Told::lent_back, c_steps::specs::RecordSteps::settled))]
+pub fn ym2149_sync_sample_cycle(chip: &mut Record, cycle: u64) -> u8
+    ensures answer { result ≡ (on_record (sync_sample_cycle cycle) chip.old).no }
+    ensures left { chip.new ≡ (on_record (sync_sample_cycle cycle) chip.old).chip }
 {
     let ok = lent_record::in_range(&*chip);
     let both = c_steps::sync_sample_cycle(
@@ -200,10 +199,9 @@ pub extern "C" fn ym2149_sync_sample_cycle(chip: &mut Record, cycle: u64) -> u8
     both.no
 }
 
-#[unsafe(no_mangle)]
-pub extern "C" fn ym2149_flush_pending_writes(chip: &mut Record) -> Counts
-    ensures { (result ≡ (apply_on flushed_pending_writes chip.old).answer)
-        × (chip.new ≡ (apply_on flushed_pending_writes chip.old).chip) }
+pub fn ym2149_flush_pending_writes(chip: &mut Record) -> Counts
+    ensures answer { result ≡ (apply_on flushed_pending_writes chip.old).answer }
+    ensures left { chip.new ≡ (apply_on flushed_pending_writes chip.old).chip }
 {
     let ok = lent_record::in_range(&*chip);
     let flushed = c_queue::flush_pending_writes(
@@ -227,10 +225,10 @@ pub extern "C" fn ym2149_flush_pending_writes(chip: &mut Record) -> Counts
     flushed.answer
 }
 
-#[unsafe(no_mangle)]
-pub extern "C" fn ym2149_set_timer_irq_state(chip: &mut Record, on: bool) -> u8
-    ensures { (result ≡ (on_record (set_timer_irq_state on) chip.old).no)
-        × (chip.new ≡ (on_record (set_timer_irq_state on) chip.old).chip) }
+#[tactic(auto, unfolding(calls_effects::specs::Effects::set_timer_irq_state, calls_effects::specs::Effects::irq_set, steps_effects::specs::EffectSteps::flag_set, c_record::specs::Record::core_of, c_record::specs::Record::record_core, c_told::specs::Told::lent_back, c_steps::specs::RecordSteps::settled))]
+pub fn ym2149_set_timer_irq_state(chip: &mut Record, on: bool) -> u8
+    ensures answer { result ≡ (on_record (set_timer_irq_state on) chip.old).no }
+    ensures left { chip.new ≡ (on_record (set_timer_irq_state on) chip.old).chip }
 {
     let ok = lent_record::in_range(&*chip);
     let flagged = c_steps::set_timer_irq_state(
@@ -250,10 +248,10 @@ pub extern "C" fn ym2149_set_timer_irq_state(chip: &mut Record, on: bool) -> u8
     flagged.no
 }
 
-#[unsafe(no_mangle)]
-pub extern "C" fn ym2149_inside_timer_irq(chip: &mut Record, inside: bool) -> u8
-    ensures { (result ≡ (on_record (set_timer_irq_state inside) chip.old).no)
-        × (chip.new ≡ (on_record (set_timer_irq_state inside) chip.old).chip) }
+#[tactic(auto, unfolding(calls_effects::specs::Effects::set_timer_irq_state, calls_effects::specs::Effects::irq_set, steps_effects::specs::EffectSteps::flag_set, c_record::specs::Record::core_of, c_record::specs::Record::record_core, c_told::specs::Told::lent_back, c_steps::specs::RecordSteps::settled))]
+pub fn ym2149_inside_timer_irq(chip: &mut Record, inside: bool) -> u8
+    ensures answer { result ≡ (on_record (set_timer_irq_state inside) chip.old).no }
+    ensures left { chip.new ≡ (on_record (set_timer_irq_state inside) chip.old).chip }
 {
     let ok = lent_record::in_range(&*chip);
     let flagged = c_steps::set_timer_irq_state(
@@ -273,10 +271,10 @@ pub extern "C" fn ym2149_inside_timer_irq(chip: &mut Record, inside: bool) -> u8
     flagged.no
 }
 
-#[unsafe(no_mangle)]
-pub extern "C" fn ym2149_trigger_envelope(chip: &mut Record) -> u8
-    ensures { (result ≡ (on_record trigger_envelope chip.old).no)
-        × (chip.new ≡ (on_record trigger_envelope chip.old).chip) }
+#[tactic(auto, unfolding(calls_effects::specs::Effects::trigger_envelope, steps_effects::specs::EffectSteps::trigger_set, c_record::specs::Record::core_of, c_record::specs::Record::record_core, c_told::specs::Told::lent_back, c_steps::specs::RecordSteps::settled))]
+pub fn ym2149_trigger_envelope(chip: &mut Record) -> u8
+    ensures answer { result ≡ (on_record trigger_envelope chip.old).no }
+    ensures left { chip.new ≡ (on_record trigger_envelope chip.old).chip }
 {
     let ok = lent_record::in_range(&*chip);
     let triggered = c_steps::trigger_envelope(
@@ -293,10 +291,9 @@ pub extern "C" fn ym2149_trigger_envelope(chip: &mut Record) -> u8
     triggered.no
 }
 
-#[unsafe(no_mangle)]
-pub extern "C" fn ym2149_set_channel_mute(chip: &mut Record, channel: usize, muted: bool) -> u8
-    ensures { (result ≡ (on_record (set_channel_mute channel muted) chip.old).no)
-        × (chip.new ≡ (on_record (set_channel_mute channel muted) chip.old).chip) }
+pub fn ym2149_set_channel_mute(chip: &mut Record, channel: usize, muted: bool) -> u8
+    ensures answer { result ≡ (on_record (set_channel_mute channel muted) chip.old).no }
+    ensures left { chip.new ≡ (on_record (set_channel_mute channel muted) chip.old).chip }
 {
     let ok = lent_record::in_range(&*chip);
     let mutes = c_steps::set_channel_mute(
@@ -319,14 +316,9 @@ pub extern "C" fn ym2149_set_channel_mute(chip: &mut Record, channel: usize, mut
     mutes.no
 }
 
-#[unsafe(no_mangle)]
-pub extern "C" fn ym2149_set_drum_sample_override(
-    chip: &mut Record,
-    channel: usize,
-    drum: RecordDrum,
-) -> u8
-    ensures { (result ≡ (on_record (set_drum_sample_override channel (drum_of drum)) chip.old).no)
-        × (chip.new ≡ (on_record (set_drum_sample_override channel (drum_of drum)) chip.old).chip) }
+pub fn ym2149_set_drum_sample_override(chip: &mut Record, channel: usize, drum: RecordDrum) -> u8
+    ensures answer { result ≡ (on_record (set_drum_sample_override channel (drum_of drum)) chip.old).no }
+    ensures left { chip.new ≡ (on_record (set_drum_sample_override channel (drum_of drum)) chip.old).chip }
 {
     let ok = lent_record::in_range(&*chip);
     let drums = c_steps::set_drum_sample_override(
@@ -343,10 +335,9 @@ pub extern "C" fn ym2149_set_drum_sample_override(
     drums.no
 }
 
-#[unsafe(no_mangle)]
-pub extern "C" fn ym2149_compute_next_sample(chip: &mut Record) -> Sample
-    ensures { (result ≡ (next_word chip.old).answer)
-        × (chip.new ≡ (next_word chip.old).chip) }
+pub fn ym2149_compute_next_sample(chip: &mut Record) -> Sample
+    ensures answer { result ≡ (next_word chip.old).answer }
+    ensures left { chip.new ≡ (next_word chip.old).chip }
 {
     let ok = lent_record::in_range(&*chip);
     let r = c_words::compute_next_sample(
@@ -376,11 +367,10 @@ pub extern "C" fn ym2149_compute_next_sample(chip: &mut Record) -> Sample
     r.answer
 }
 
-#[unsafe(no_mangle)]
-pub extern "C" fn ym2149_block(chip: &mut Record, out: &mut [u16]) -> Played
-    ensures { (result ≡ (next_block (length out.old) chip.old).answer)
-        × (chip.new ≡ (next_block (length out.old) chip.old).chip)
-        × (out.new ≡ block_buffer out.old (chip_of chip.old)) }
+pub fn ym2149_block(chip: &mut Record, out: &mut [u16]) -> Played
+    ensures answer { result ≡ (next_block (length out.old) chip.old).answer }
+    ensures left { chip.new ≡ (next_block (length out.old) chip.old).chip }
+    ensures buffer { out.new ≡ block_buffer out.old (chip_of chip.old) }
 {
     let ok = lent_record::in_range(&*chip);
     let played = c_blocks::block(
@@ -399,48 +389,47 @@ pub extern "C" fn ym2149_block(chip: &mut Record, out: &mut [u16]) -> Played
     played.answer
 }
 
-#[unsafe(no_mangle)]
-pub extern "C" fn ym2149_read_register(chip: &Record, register: u8) -> Byte
+#[tactic(auto, unfolding(calls_registers::specs::Stored::read_register, steps_registers::specs::RegisterSteps::register_said, c_record::specs::Record::core_of))]
+pub fn ym2149_read_register(chip: &Record, register: u8) -> Byte
     ensures { result ≡ read_register register (chip_of chip.now) }
 {
     let ok = lent_record::in_range(chip);
     steps_registers::read_register(ok, chip.core.voice.registers, register)
 }
 
-#[unsafe(no_mangle)]
-pub extern "C" fn ym2149_dump_registers(chip: &Record) -> Bytes
+#[tactic(auto, unfolding(calls_registers::specs::Stored::dump_registers, steps_registers::specs::RegisterSteps::dump_said, c_record::specs::Record::core_of))]
+pub fn ym2149_dump_registers(chip: &Record) -> Bytes
     ensures { result ≡ dump_registers (chip_of chip.now) }
 {
     let ok = lent_record::in_range(chip);
     steps_registers::dump_registers(ok, chip.core.voice.registers)
 }
 
-#[unsafe(no_mangle)]
-pub extern "C" fn ym2149_read_port(chip: &Record, port: u8) -> Byte
+#[tactic(auto, unfolding(calls_ports::specs::Ports::read_port, steps_registers::specs::RegisterSteps::port_said, c_record::specs::Record::core_of))]
+pub fn ym2149_read_port(chip: &Record, port: u8) -> Byte
     ensures { result ≡ read_port port (chip_of chip.now) }
 {
     let ok = lent_record::in_range(chip);
     steps_registers::read_port(ok, chip.core.voice.registers, chip.core.selected, port)
 }
 
-#[unsafe(no_mangle)]
-pub extern "C" fn ym2149_cpu_cycle(chip: &Record) -> Cycle
+#[tactic(auto, unfolding(calls_cycles::specs::Cycles::cpu_cycle, steps_cycles::specs::CycleSteps::cycle_said, c_record::specs::Record::core_of))]
+pub fn ym2149_cpu_cycle(chip: &Record) -> Cycle
     ensures { result ≡ cpu_cycle (chip_of chip.now) }
 {
     let ok = lent_record::in_range(chip);
     steps_cycles::cpu_cycle(ok, chip.core.stamp)
 }
 
-#[unsafe(no_mangle)]
-pub extern "C" fn ym2149_pending_write_count(chip: &Record) -> Count
+#[tactic(auto, unfolding(calls_cycles::specs::Cycles::pending_write_count, steps_cycles::specs::CycleSteps::count_said, c_record::specs::Record::core_of))]
+pub fn ym2149_pending_write_count(chip: &Record) -> Count
     ensures { result ≡ pending_write_count (chip_of chip.now) }
 {
     let ok = lent_record::in_range(chip);
     steps_cycles::pending_write_count(ok, chip.queue.count)
 }
 
-#[unsafe(no_mangle)]
-pub extern "C" fn ym2149_is_channel_muted(chip: &Record, channel: usize) -> Flag
+pub fn ym2149_is_channel_muted(chip: &Record, channel: usize) -> Flag
     ensures { result ≡ is_channel_muted channel (chip_of chip.now) }
 {
     let ok = lent_record::in_range(chip);
@@ -453,8 +442,8 @@ pub extern "C" fn ym2149_is_channel_muted(chip: &Record, channel: usize) -> Flag
     )
 }
 
-#[unsafe(no_mangle)]
-pub extern "C" fn ym2149_get_channel_outputs(chip: &Record) -> Outputs
+#[tactic(auto, unfolding(calls_channels::specs::ChannelCalls::get_channel_outputs, steps_channels::specs::ChannelSteps::outputs_said, c_record::specs::Record::core_of))]
+pub fn ym2149_get_channel_outputs(chip: &Record) -> Outputs
     ensures { result ≡ get_channel_outputs (chip_of chip.now) }
 {
     let ok = lent_record::in_range(chip);

@@ -1,4 +1,6 @@
 // A new chip, in the record that a host lends for it. 01, "Power-on and reset".
+#![tactic(auto)]
+
 ghost use Rattle.std.specs.Prelude.{◌≡◌};
 ghost use Rattle.answers.specs.Answers.{answered};
 ghost use Rattle.calls_making.specs.Making.{fresh, with_clocks, with_variant};

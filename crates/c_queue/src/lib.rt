@@ -1,5 +1,7 @@
 // A flush, on the parts of a host's record, with its three drums: an accepted call leaves a drum that is off at level 0. `ok` is the test
 // of the record. 01, "Registers and ports" and "Numbers a call can answer".
+#![tactic(auto)]
+
 ghost use Rattle.std.specs.Prelude.{◌≡◌, true};
 ghost use Rattle.queue.specs.Waiting.{QueueInRange, ring};
 ghost use Rattle.steps_queue.specs.QueueSteps.{flush_step};
@@ -10,7 +12,7 @@ use c_record::RecordDrum;
 use registers::Voice;
 
 // The drums, the voice, the ring's place and its count to store, and the call's answer.
-#[derive(Drop)]
+#[derive(Clone, Copy)]
 pub struct RecordFlushed {
     pub a: RecordDrum,
     pub b: RecordDrum,

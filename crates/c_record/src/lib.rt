@@ -1,4 +1,6 @@
 // The chip's record as a C or Rust host owns it: that of `chip`, but for the drum, which is a flag and a level, as the kit exports no enum.
+#![tactic(auto)]
+
 ghost use Rattle.std.specs.Prelude.{◌≡◌};
 ghost use Rattle.c_record.specs.Record.{channel_of, chip_of, core_of, drum_of, record_channel, record_core, record_drum, record_of};
 
@@ -10,14 +12,14 @@ use three_channels::Channels;
 
 // A drum that is off has no level: `sample` then says nothing.
 #[repr(C)]
-#[derive(Drop)]
+#[derive(Clone, Copy)]
 pub struct RecordDrum {
     pub on: bool,
     pub sample: f32,
 }
 
 #[repr(C)]
-#[derive(Drop)]
+#[derive(Clone, Copy)]
 pub struct RecordChannel {
     pub muted: bool,
     pub drum: RecordDrum,
@@ -26,7 +28,7 @@ pub struct RecordChannel {
 }
 
 #[repr(C)]
-#[derive(Drop)]
+#[derive(Clone, Copy)]
 pub struct RecordCore {
     pub clocks: Clocks,
     pub voice: Voice,
@@ -41,7 +43,7 @@ pub struct RecordCore {
 }
 
 #[repr(C)]
-#[derive(Drop)]
+#[derive(Clone, Copy)]
 pub struct Record {
     pub core: RecordCore,
     pub queue: Queue,
@@ -49,7 +51,7 @@ pub struct Record {
 
 // What `load_registers` is handed: C passes no array by value.
 #[repr(C)]
-#[derive(Drop)]
+#[derive(Clone, Copy)]
 pub struct Registers {
     pub bytes: [u8; 16],
 }
@@ -70,6 +72,7 @@ pub fn record_of(chip: Chip) -> Record
     Record { core, queue }
 }
 
+#[tactic(auto, unfolding(crate::specs::Record::drum_of))]
 pub fn drum_of(drum: RecordDrum) -> Drum
     ensures { result ≡ drum_of drum }
 {
@@ -79,6 +82,7 @@ pub fn drum_of(drum: RecordDrum) -> Drum
     Drum::Off
 }
 
+#[tactic(auto, unfolding(crate::specs::Record::core_of))]
 pub fn core_of(core: RecordCore) -> Core
     ensures { result ≡ core_of core }
 {
@@ -100,6 +104,7 @@ pub fn core_of(core: RecordCore) -> Core
     }
 }
 
+#[tactic(auto, unfolding(crate::specs::Record::record_core))]
 pub fn record_core(core: Core) -> RecordCore
     ensures { result ≡ record_core core }
 {
@@ -148,6 +153,7 @@ pub fn record_channel(channel: Channel) -> RecordChannel
     }
 }
 
+#[tactic(auto, unfolding(crate::specs::Record::record_drum))]
 pub fn record_drum(drum: Drum) -> RecordDrum
     ensures { result ≡ record_drum drum }
 {

@@ -1,5 +1,7 @@
 // What the calls change of a lent record, stepped by value, with the record's three drums: an accepted call leaves a drum that is off at
 // level 0. `ok` is the test of the record. 01, "Registers and ports" and "Numbers a call can answer".
+#![tactic(auto)]
+
 ghost use Rattle.std.specs.Prelude.{◌≡◌};
 ghost use Rattle.steps_cycles.specs.CycleSteps.{both_set, stamp_set};
 ghost use Rattle.steps_voice.specs.VoiceSteps.{port_written, voiced, voiced_all};
@@ -16,7 +18,7 @@ use generators::Generators;
 use registers::Voice;
 
 // The drums and the stamp to store, and the call's number.
-#[derive(Drop)]
+#[derive(Clone, Copy)]
 pub struct RecordStamped {
     pub a: RecordDrum,
     pub b: RecordDrum,
@@ -26,7 +28,7 @@ pub struct RecordStamped {
 }
 
 // The drums, the stamp and the next word's start to store, and the call's number.
-#[derive(Drop)]
+#[derive(Clone, Copy)]
 pub struct RecordSynced {
     pub a: RecordDrum,
     pub b: RecordDrum,
@@ -37,7 +39,7 @@ pub struct RecordSynced {
 }
 
 // The drums and the voice to store, and the call's answer.
-#[derive(Drop)]
+#[derive(Clone, Copy)]
 pub struct RecordVoiced {
     pub a: RecordDrum,
     pub b: RecordDrum,
@@ -46,7 +48,7 @@ pub struct RecordVoiced {
     pub answer: Wrote,
 }
 
-#[derive(Drop)]
+#[derive(Clone, Copy)]
 pub struct RecordLoaded {
     pub a: RecordDrum,
     pub b: RecordDrum,
@@ -56,7 +58,7 @@ pub struct RecordLoaded {
 }
 
 // The drums, the voice and the selection to store, and the call's answer.
-#[derive(Drop)]
+#[derive(Clone, Copy)]
 pub struct RecordPort {
     pub a: RecordDrum,
     pub b: RecordDrum,
@@ -67,7 +69,7 @@ pub struct RecordPort {
 }
 
 // The drums, the generators and the IRQ flag to store, and the call's number.
-#[derive(Drop)]
+#[derive(Clone, Copy)]
 pub struct RecordFlagged {
     pub a: RecordDrum,
     pub b: RecordDrum,
@@ -78,7 +80,7 @@ pub struct RecordFlagged {
 }
 
 // The drums and the envelope to store, and the call's number.
-#[derive(Drop)]
+#[derive(Clone, Copy)]
 pub struct RecordTriggered {
     pub a: RecordDrum,
     pub b: RecordDrum,
@@ -88,7 +90,7 @@ pub struct RecordTriggered {
 }
 
 // The drums and the mutes to store, and the call's number.
-#[derive(Drop)]
+#[derive(Clone, Copy)]
 pub struct RecordMuted {
     pub a: RecordDrum,
     pub b: RecordDrum,
@@ -100,7 +102,7 @@ pub struct RecordMuted {
 }
 
 // The drums to store, and the call's number.
-#[derive(Drop)]
+#[derive(Clone, Copy)]
 pub struct RecordDrummed {
     pub a: RecordDrum,
     pub b: RecordDrum,
@@ -109,7 +111,7 @@ pub struct RecordDrummed {
 }
 
 // The drums, the selection and the count to store, the slot to write and what to write there, and the call's number.
-#[derive(Drop)]
+#[derive(Clone, Copy)]
 pub struct RecordQueued {
     pub a: RecordDrum,
     pub b: RecordDrum,
@@ -304,6 +306,7 @@ pub fn set_channel_mute(
     }
 }
 
+#[tactic(auto, unfolding(crate::specs::RecordSteps::record_drummed))]
 pub fn set_drum_sample_override(
     ok: bool,
     a: RecordDrum,
@@ -363,6 +366,7 @@ pub fn write_port(
 }
 
 // A refused call leaves a drum as it was, in every byte.
+#[tactic(auto, unfolding(crate::specs::RecordSteps::settled, c_record::specs::Record::drum_of, c_record::specs::Record::record_drum))]
 pub fn settled(no: u8, drum: RecordDrum) -> RecordDrum
     ensures { result ≡ settled no drum }
 {

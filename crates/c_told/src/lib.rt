@@ -1,4 +1,6 @@
 // What a call leaves in a host's record, and what it answers. 01, "Numbers a call can answer".
+#![tactic(auto)]
+
 ghost use Rattle.std.specs.Prelude.{◌≡◌};
 ghost use Rattle.c_told.specs.Told.{lent_back, told};
 
@@ -7,7 +9,7 @@ use c_record::Record;
 use chip::Chip;
 
 // The record after a call, and what the call answers.
-#[derive(Drop)]
+#[derive(Clone, Copy)]
 pub struct Told {
     pub chip: Record,
     pub no: u8,
@@ -22,6 +24,7 @@ pub fn tell(lent: Record, answered: Answered) -> Told
 }
 
 // A refused call leaves the record as it was, in every byte.
+#[tactic(auto, unfolding(crate::specs::Told::lent_back))]
 fn lent_back(lent: Record, no: u8, chip: Chip) -> Record
     ensures { result ≡ lent_back lent no chip }
 {

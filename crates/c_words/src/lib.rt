@@ -1,4 +1,6 @@
 // One word on the parts of a host's record, by value. 01, "One tick, one word".
+#![tactic(auto)]
+
 ghost use Rattle.std.specs.Prelude.{◌≡◌, true};
 ghost use Rattle.c_words.specs.Words.{channels_of, left_of, record_word};
 ghost use Rattle.queue.specs.Waiting.{ring};
@@ -12,7 +14,7 @@ use registers::Voice;
 use three_channels::Channels;
 
 // What a word changes of a host's record, to store, and the call's answer.
-#[derive(Drop)]
+#[derive(Clone, Copy)]
 pub struct RecordWord {
     pub voice: Voice,
     pub a: RecordChannel,
@@ -81,6 +83,7 @@ pub fn compute_next_sample<'t>(
 }
 
 // A refused call leaves a channel as it was, in every byte.
+#[tactic(auto, unfolding(crate::specs::Words::left_of))]
 fn left(no: u8, before: RecordChannel, after: Channel) -> RecordChannel
     ensures { result ≡ left_of no before after }
 {

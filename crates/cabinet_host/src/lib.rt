@@ -1,5 +1,7 @@
 // The lent calls as a host makes them: it lends the record that it owns, and reads the new state there afterwards. 01, "One tick,
 // one word". Each answers what the call by value answers.
+#![tactic(auto)]
+
 ghost use Rattle.std.specs.Prelude.{◌≡◌, length};
 ghost use Rattle.calls_making.specs.Making.{reset_call};
 ghost use Rattle.calls_registers.specs.Stored.{dump_registers, loaded_registers, read_register, wrote_register};
@@ -114,7 +116,8 @@ pub fn compute_next_sample(mut chip: Chip) -> Sampled
 }
 
 pub fn block(mut chip: Chip, out: &mut [u16]) -> Blocked
-    ensures { (result ≡ blocked (length out.old) chip) × (out.new ≡ block_buffer out.old chip) }
+    ensures answer { result ≡ blocked (length out.old) chip }
+    ensures buffer { out.new ≡ block_buffer out.old chip }
 {
     let answer = cabinet_words::block(&mut chip, out);
     Blocked { chip, answer }

@@ -1,5 +1,7 @@
 // One word and a block, on a chip record that its owner lends. 01, "One tick, one word": "The cabinet host lends its one chip record and
 // reads the new state there afterwards."
+#![tactic(auto)]
+
 ghost use Rattle.std.specs.Prelude.{◌≡◌, length};
 ghost use Rattle.calls_words.specs.Blocks.{block_buffer, blocked, sampled};
 
@@ -7,7 +9,8 @@ use answers::{Played, Sample};
 use chip::Chip;
 
 pub fn compute_next_sample(chip: &mut Chip) -> Sample
-    ensures { (result ≡ (sampled chip.old).answer) × (chip.new ≡ (sampled chip.old).chip) }
+    ensures answer { result ≡ (sampled chip.old).answer }
+    ensures left { chip.new ≡ (sampled chip.old).chip }
 {
     let ok = lent_chip::in_range(&*chip);
     let r = steps_words::compute_next_sample(
@@ -34,9 +37,9 @@ pub fn compute_next_sample(chip: &mut Chip) -> Sample
 }
 
 pub fn block(chip: &mut Chip, out: &mut [u16]) -> Played
-    ensures { (result ≡ (blocked (length out.old) chip.old).answer)
-        × (chip.new ≡ (blocked (length out.old) chip.old).chip)
-        × (out.new ≡ block_buffer out.old chip.old) }
+    ensures answer { result ≡ (blocked (length out.old) chip.old).answer }
+    ensures left { chip.new ≡ (blocked (length out.old) chip.old).chip }
+    ensures buffer { out.new ≡ block_buffer out.old chip.old }
 {
     let ok = lent_chip::in_range(&*chip);
     let r = steps_blocks::block(

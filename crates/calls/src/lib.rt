@@ -1,4 +1,6 @@
 // The chip as its users see it: the record and every call by value, under one name. Each call is proved in the crate it comes from.
+#![tactic(auto)]
+
 pub use answers::{
     Answered, Applied, Blocked, Byte, Bytes, Count, Counts, Cycle, Flag, Outputs, Played, Sample,
     Sampled, Written, Wrote,

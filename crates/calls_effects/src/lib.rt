@@ -1,4 +1,6 @@
 // The IRQ flag and the envelope's trigger. 01, "Registers and ports".
+#![tactic(auto)]
+
 ghost use Rattle.std.specs.Prelude.{◌≡◌};
 ghost use Rattle.calls_effects.specs.Effects.{set_timer_irq_state, trigger_envelope};
 

@@ -1,4 +1,6 @@
 // New chips and reset. 01, "Power-on and reset"; 02, request 05.
+#![tactic(auto)]
+
 ghost use Rattle.std.specs.Prelude.{◌≡◌};
 ghost use Rattle.calls_making.specs.Making.{fresh, made_of, reset_call, with_clocks, with_variant};
 

@@ -1,4 +1,6 @@
 // The ports. 01, "Registers and ports".
+#![tactic(auto)]
+
 ghost use Rattle.std.specs.Prelude.{◌≡◌};
 ghost use Rattle.calls_ports.specs.Ports.{queued, read_port, write_port, wrote_port_immediate};
 ghost use Rattle.chip_parts.specs.Parts.{with_selection};

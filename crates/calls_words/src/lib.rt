@@ -1,4 +1,6 @@
 // One word, and a block of words into a lent buffer. 01, "One tick, one word".
+#![tactic(auto)]
+
 ghost use Rattle.std.specs.Prelude.{◌≡◌, length};
 ghost use Rattle.calls_words.specs.Blocks.{block_buffer, block_refused, blocked, sampled};
 

@@ -1,4 +1,6 @@
 // The whole capture, checked line by line. 02, request 01.
+#![tactic(auto)]
+
 ghost use Rattle.std.specs.Prelude.{◌≡◌};
 ghost use Rattle.capture.specs.Checked.{capture_of, refused_at, sized, writes_checked};
 
@@ -8,7 +10,7 @@ use text_entries::line_entry_at;
 
 // `no` 0 is accepted: `line` is 0, and `body` is the place of the first write's lines.
 // Any other number is the refusal, at `line`, and the rest is 0.
-#[derive(Drop)]
+#[derive(Clone, Copy)]
 pub struct Captured {
     pub no: u8,
     pub line: u32,

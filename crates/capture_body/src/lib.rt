@@ -1,9 +1,11 @@
 // The writes of a capture, walked: each of three lines, held to the stamp before it. 02, request 01.
+#![tactic(auto)]
+
 ghost use Rattle.std.specs.Prelude.{◌≡◌};
 ghost use Rattle.capture_body.specs.Walk.{writes_read};
 
 // The first refusal and its line; 0 and 0 where there is none.
-#[derive(Drop)]
+#[derive(Clone, Copy)]
 pub struct WritesRead {
     pub no: u8,
     pub line: u32,

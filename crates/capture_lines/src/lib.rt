@@ -1,4 +1,6 @@
 // One line of a capture: its form before its range, and a stamp's order after both. 02, request 01.
+#![tactic(auto)]
+
 ghost use Rattle.std.specs.Prelude.{◌≡◌};
 ghost use Rattle.capture_lines.specs.OneLine.{port_line_no, stamp_line_no, value_line_no, words_line_no, writes_line_no};
 

@@ -1,4 +1,6 @@
 // The first and the last line of what is printed of a capture. 02, request 01.
+#![tactic(auto)]
+
 ghost use Rattle.std.specs.Prelude.{◌≡◌};
 ghost use Rattle.text_put.specs.Text.{laid, place_after};
 ghost use Rattle.capture_output.specs.Ends.{first_line, last_line, line_of};

@@ -1,11 +1,13 @@
 // What is due before a word, passed out of the text; and how many words need nothing passed before them. 02, request 01.
+#![tactic(auto)]
+
 ghost use Rattle.std.specs.Prelude.{◌≡◌};
 ghost use Rattle.capture_passing.specs.Due.{free_words, pass_due_from, pass_from, stopped};
 
 use chip::Chip;
 
 // The chip, and of the writes yet to be passed the next one's place and how many they are. `no` 0: what was due has been passed.
-#[derive(Drop)]
+#[derive(Clone, Copy)]
 pub struct Passing {
     pub chip: Chip,
     pub at: usize,

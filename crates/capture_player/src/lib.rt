@@ -1,4 +1,6 @@
 // The player of captures: a text's output, handed out piece by piece into a lent buffer. 02, request 01.
+#![tactic(auto)]
+
 ghost use Rattle.std.specs.Prelude.{◌≡◌, length};
 ghost use Rattle.text_put.specs.Text.{overlaid};
 ghost use Rattle.capture_player.specs.Player.{bytes_of, piece_of};

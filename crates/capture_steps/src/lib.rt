@@ -1,4 +1,6 @@
 // One step of the player of captures: the next lines of the output, into a lent buffer. 02, request 01.
+#![tactic(auto)]
+
 ghost use Rattle.std.specs.Prelude.{◌≡◌, ◌≤◌, length};
 ghost use Rattle.text_put.specs.Text.{overlaid};
 ghost use Rattle.capture_output.specs.Ends.{first_line, last_line};
@@ -12,7 +14,7 @@ pub const LEAST_ROOM: usize = 32;
 
 // Where the player of a text stands: what the check said; the chip, the place and number of the writes yet to be passed and the number of
 // words yet to be handed out; whether the first and the last line have been.
-#[derive(Drop)]
+#[derive(Clone, Copy)]
 pub struct Player {
     pub verdict: Captured,
     pub chip: Chip,
@@ -24,7 +26,7 @@ pub struct Player {
 }
 
 // How many bytes were handed out, and where the player stands then.
-#[derive(Drop)]
+#[derive(Clone, Copy)]
 pub struct Piece {
     pub player: Player,
     pub length: usize,

@@ -1,4 +1,6 @@
 // One write of a capture: its three lines, `at=`, `port=` and `value=`. 02, request 01.
+#![tactic(auto)]
+
 ghost use Rattle.std.specs.Prelude.{◌≡◌};
 ghost use Rattle.capture_writes.specs.Writes.{bad_write, write_at};
 
@@ -8,7 +10,7 @@ use text_entries::{byte_entry_at, line_entry_at, long_entry_at};
 
 // `no` 0 is accepted: `next` is the place after the write's lines. Any other number is the refusal of one of them, 0 for `at=` up to 2
 // for `value=` in `line`, and the rest is 0.
-#[derive(Drop)]
+#[derive(Clone, Copy)]
 pub struct WriteLines {
     pub no: u8,
     pub line: u32,

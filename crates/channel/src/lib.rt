@@ -1,15 +1,17 @@
 // What a channel gives, and what it keeps. 01, "One tick, one word"; the crate's mixer.rs.
+#![tactic(auto)]
+
 ghost use Rattle.std.specs.Prelude.{◌≡◌, ◌<◌};
 ghost use Rattle.tables.specs.Levels.{levels};
 ghost use Rattle.channel.specs.Channel.{heard, sounded, channel_reset, with_mute, with_drum, quiet};
 
-#[derive(Drop)]
+#[derive(Clone, Copy)]
 pub enum Drum {
     Off,
     Sample(f32),
 }
 
-#[derive(Drop)]
+#[derive(Clone, Copy)]
 pub struct Channel {
     pub muted: bool,
     pub drum: Drum,
@@ -18,7 +20,7 @@ pub struct Channel {
 }
 
 // A channel's part of a word, and the channel after it.
-#[derive(Drop)]
+#[derive(Clone, Copy)]
 pub struct Heard {
     pub out: u16,
     pub channel: Channel,

@@ -1,4 +1,6 @@
 // The chip's record, and the test of one that is handed in, refusal 22. 01, "What changes shape".
+#![tactic(auto)]
+
 ghost use Rattle.std.specs.Prelude.{◌≡◌};
 ghost use Rattle.refusals.specs.Numbers.{accepted};
 ghost use Rattle.clocks.specs.Clocks.{clocks_no};
@@ -11,7 +13,7 @@ use three_channels::Channels;
 
 // Accepted clocks and their quotients: the internal clock is a tick's, and `cycles` are the CPU's in a word.
 #[repr(C)]
-#[derive(Drop)]
+#[derive(Clone, Copy)]
 pub struct Clocks {
     pub master: u32,
     pub rate: u32,
@@ -20,7 +22,7 @@ pub struct Clocks {
 }
 
 // All of the chip but its waiting writes.
-#[derive(Drop)]
+#[derive(Clone, Copy)]
 pub struct Core {
     pub clocks: Clocks,
     pub voice: Voice,
@@ -32,7 +34,7 @@ pub struct Core {
     pub start: u64,
 }
 
-#[derive(Drop)]
+#[derive(Clone, Copy)]
 pub struct Chip {
     pub core: Core,
     pub queue: Queue,
@@ -64,6 +66,7 @@ pub fn in_range(chip: Chip) -> bool
 }
 
 // The same test by what it looks at, for a record that is lent: read where it lies, as long as this has one caller in a program.
+#[tactic(auto, unfolding(crate::specs::Range::parts_in))]
 pub fn parts_in(
     clocks: Clocks,
     accumulator: u32,

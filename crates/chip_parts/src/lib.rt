@@ -1,4 +1,6 @@
 // A chip at its start, and a chip with one part changed. 01, "Power-on and reset", "Registers and ports".
+#![tactic(auto)]
+
 ghost use Rattle.std.specs.Prelude.{◌≡◌};
 ghost use Rattle.chip_parts.specs.Parts.{at_start, with_channels, with_voice};
 

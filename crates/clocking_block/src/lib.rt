@@ -1,4 +1,6 @@
 // A block of words. 01, "One tick, one word".
+#![tactic(auto)]
+
 ghost use Rattle.std.specs.Prelude.{◌≡◌, ◌+◌, ◌*◌, ◌^◌, ◌≤◌, ◌<◌, length};
 ghost use Rattle.queue.specs.Waiting.{ring, QueueInRange};
 ghost use Rattle.chip.specs.Range.{CoreInRange};
@@ -7,7 +9,7 @@ ghost use Rattle.clocking_block.specs.Block.{block_of, chip_with, next_due, word
 use chip::Core;
 
 // What a block leaves; the ring's slots are as they were.
-#[derive(Drop)]
+#[derive(Clone, Copy)]
 pub struct Rendered {
     pub core: Core,
     pub head: usize,

@@ -63,7 +63,7 @@ held_of {g} r a b c e n =
 
 -- a position of 32 bits is read back as it was stored, and so is the next
 pub kept : (p : ℤ) → mag p < 2147483648 → to_z w32 (of_z w32 p) ≡ p
-kept p h = to_z-of_z (record { sfits = h })
+kept p h = to_z-of_z {w = w32} (record { sfits = h })
 
 up : (p : ℤ) → mag p < 2147483648 → lt_z p (pos 63) ≡ true → mag (p +ℤ pos 1) < 2147483648
 up (pos n) h e = omega (arith, ltb-true n 63 e)

@@ -1,5 +1,7 @@
 // The generators while the ticks of a word run: counters of 32 bits, and the edges of the three tones in one word, so that all of it
 // stays in the machine's registers. It means generators (`shown`), and its tick is theirs (`shown-tick` of proofs/Shown.antt).
+#![tactic(auto)]
+
 ghost use Rattle.std.specs.Prelude.{◌≡◌};
 ghost use Rattle.generators.specs.Range.{GeneratorsInRange};
 ghost use Rattle.clocking_generators.specs.Turning.{Held, tones_turned, envelope_turned, noise_turned, shown, turned, turning_of};
@@ -8,7 +10,7 @@ use generators::Generators;
 use tone::{BITS_A, BITS_B, BITS_C};
 
 // `rest` are the generators that it began with: their periods, pending flips and shape hold.
-#[derive(Drop)]
+#[derive(Clone, Copy)]
 pub struct Turning {
     pub rest: Generators,
     pub a: u32,

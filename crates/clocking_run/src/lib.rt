@@ -1,4 +1,6 @@
 // Words one after the other, with no write between them. 01, "One tick, one word".
+#![tactic(auto)]
+
 ghost use Rattle.std.specs.Prelude.{◌≡◌, true, ◌+◌, ◌*◌, ◌-◌, ◌^◌, ◌≤◌, ◌<◌, length};
 ghost use Rattle.tables.specs.Levels.{levels};
 ghost use Rattle.envelope_wave.specs.Wave.{wave_of};
@@ -13,7 +15,7 @@ use generators::Generators;
 use level_scale::Scale;
 
 // What words leave of the chip, and where they stop.
-#[derive(Drop)]
+#[derive(Clone, Copy)]
 pub struct Run {
     pub generators: Generators,
     pub accumulator: u32,

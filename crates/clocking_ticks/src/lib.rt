@@ -1,4 +1,6 @@
 // The ticks of a word. 01, "One tick, one word"; the crate's chip.rs.
+#![tactic(auto)]
+
 ghost use Rattle.std.specs.Prelude.{◌≡◌};
 ghost use Rattle.generators.specs.Range.{GeneratorsInRange};
 ghost use Rattle.clocking_ticks.specs.Ticks.{ticked};
@@ -9,7 +11,7 @@ use gates::Gates;
 use generators::Generators;
 
 // What the ticks of a word come to.
-#[derive(Drop)]
+#[derive(Clone, Copy)]
 pub struct Ran {
     pub generators: Generators,
     pub gate: u32,
@@ -17,7 +19,7 @@ pub struct Ran {
     pub ticks: u32,
 }
 
-#[derive(Drop)]
+#[derive(Clone, Copy)]
 struct Taken {
     gate: u32,
     accumulator: u32,

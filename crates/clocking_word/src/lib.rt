@@ -1,4 +1,6 @@
 // One word. 01, "One tick, one word"; `compute_next_sample` of the crate's chip.rs.
+#![tactic(auto)]
+
 ghost use Rattle.std.specs.Prelude.{◌≡◌, ◌+◌, ◌^◌, ◌<◌};
 ghost use Rattle.tables.specs.Levels.{levels};
 ghost use Rattle.envelope.specs.Range.{EnvelopeInRange};
@@ -13,7 +15,7 @@ use registers::Voice;
 use three_channels::Channels;
 
 // A word, and the small state after it; the ring's slots are as they were.
-#[derive(Drop)]
+#[derive(Clone, Copy)]
 pub struct Worded {
     pub core: Core,
     pub head: usize,

@@ -1,4 +1,6 @@
 // Which clocks are accepted: the refusals 1, 2 and 3, for a chip and for a dump's lines. 01, "Numbers a call can answer".
+#![tactic(auto)]
+
 ghost use Rattle.std.specs.Prelude.{◌≡◌};
 ghost use Rattle.clocks.specs.Clocks.{clocks_no, master_no, rate_no};
 

@@ -1,4 +1,6 @@
 // What a drum's sample gives. 01, "One tick, one word"; the crate's mixer.rs.
+#![tactic(auto)]
+
 ghost use Rattle.std.specs.Prelude.{◌≡◌};
 ghost use Rattle.drums.specs.Drums.{cut_of, drum_out};
 

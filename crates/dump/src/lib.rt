@@ -1,4 +1,6 @@
 // The whole dump, checked line by line. 01, "The dump player".
+#![tactic(auto)]
+
 ghost use Rattle.std.specs.Prelude.{◌≡◌};
 ghost use Rattle.dump.specs.Checked.{frames_from, refused_at, sized, verdict_of};
 
@@ -8,7 +10,7 @@ use text_entries::line_entry_at;
 
 // `no` 0 is accepted: `line` is 0, and `body` is the place of the first frame's line.
 // Any other number is 01's refusal, at `line`, and the rest is 0.
-#[derive(Drop)]
+#[derive(Clone, Copy)]
 pub struct Verdict {
     pub no: u8,
     pub line: u32,

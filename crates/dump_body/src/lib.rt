@@ -1,4 +1,6 @@
 // The frames' lines of a dump, read one after another by a reader. 01, "The dump player".
+#![tactic(auto)]
+
 ghost use Rattle.std.specs.Prelude.{◌≡◌};
 ghost use Rattle.dump_body.specs.Frames.{frames_read};
 
@@ -6,7 +8,7 @@ use dump_lines::frame_at;
 use dump_reader::{DumpReader, next_line};
 
 // How many lines have a frame's form, and where the reader stands after the last line that it read.
-#[derive(Drop)]
+#[derive(Clone, Copy)]
 pub struct FramesRead {
     pub count: u16,
     pub at: usize,

@@ -1,4 +1,6 @@
 // The first two lines of a text that the bench plays: its clocks, read where a reader meets them. 01, "The dump player".
+#![tactic(auto)]
+
 ghost use Rattle.std.specs.Prelude.{◌≡◌};
 ghost use Rattle.dump_clocks.specs.Clocks.{clock_lines, clocks_refused};
 
@@ -10,7 +12,7 @@ pub const LONGEST_TEXT: usize = 65_536;
 
 // `no` 0 is accepted: `line` is 0, and `third` and `fourth` are the places of the next two lines.
 // Any other number is 01's refusal, at `line`, and the rest is 0.
-#[derive(Drop)]
+#[derive(Clone, Copy)]
 pub struct ClockLines {
     pub no: u8,
     pub line: u32,

@@ -1,4 +1,6 @@
 // Playing a frame of a dump. 01, "The dump player"; 02, request 03.
+#![tactic(auto)]
+
 ghost use Rattle.std.specs.Prelude.{◌≡◌, ◌+◌, ◌<◌, length};
 ghost use Rattle.text_lines.specs.Bytes.{bytes};
 ghost use Rattle.text_lines.specs.Lines.{value_at};

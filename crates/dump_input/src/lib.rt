@@ -1,4 +1,6 @@
 // The room that a dump is read into. 01, "The dump player": a dump longer than 65,536 bytes is refused whatever it holds.
+#![tactic(auto)]
+
 ghost use Rattle.std.specs.Prelude.{◌≡◌, length, replicate};
 ghost use Rattle.dump_input.specs.Enough.{enough};
 

@@ -1,4 +1,6 @@
 // One line of a dump: its form before its range. 01, "The dump player".
+#![tactic(auto)]
+
 ghost use Rattle.std.specs.Prelude.{◌≡◌};
 ghost use Rattle.dump_lines.specs.OneLine.{frame_at, frames_line_no, is_frame, master_line_no, rate_line_no, words_line_no};
 

@@ -1,4 +1,6 @@
 // The dump player's first line: a refusal, or the total of words. 01, "The dump player".
+#![tactic(auto)]
+
 ghost use Rattle.std.specs.Prelude.{◌≡◌};
 ghost use Rattle.text_put.specs.Text.{laid, place_after};
 ghost use Rattle.dump_output.specs.Printed.{first_line};

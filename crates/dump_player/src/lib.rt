@@ -1,4 +1,6 @@
 // The dump player as a value: a text's output, handed out piece by piece into a lent buffer. 01, "The dump player".
+#![tactic(auto)]
+
 ghost use Rattle.std.specs.Prelude.{◌≡◌, ◌≤◌, ◌<◌, length};
 ghost use Rattle.text_put.specs.Text.{overlaid};
 ghost use Rattle.dump_output.specs.Printed.{first_line};
@@ -14,7 +16,7 @@ pub const LEAST_ROOM: usize = 32;
 
 // Where the player of a text stands: what the check said, the place of the next frame's line, the chip, and how far the output has
 // been handed out.
-#[derive(Drop)]
+#[derive(Clone, Copy)]
 pub struct Player {
     pub verdict: Verdict,
     pub at: usize,
@@ -23,7 +25,7 @@ pub struct Player {
 }
 
 // How many bytes were handed out, and where the player stands then.
-#[derive(Drop)]
+#[derive(Clone, Copy)]
 pub struct Piece {
     pub player: Player,
     pub length: usize,

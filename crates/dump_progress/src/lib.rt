@@ -1,9 +1,11 @@
 // How far the player's output has been handed out: what is next, and how much of it a buffer takes. 01, "The dump player".
+#![tactic(auto)]
+
 ghost use Rattle.std.specs.Prelude.{◌≡◌, ◌≤◌, ◌<◌, min};
 ghost use Rattle.dump_progress.specs.Progress.{first_line_given, frame_begins, frame_due, words_for, words_given, words_in};
 
 // Whether the first line has been handed out, how many frames have begun, and how many words of the last one are left.
-#[derive(Drop)]
+#[derive(Clone, Copy)]
 pub struct Progress {
     pub begun: bool,
     pub frames: u16,

@@ -1,11 +1,13 @@
 // A dump reader carries the text and its place from line to line.
+#![tactic(auto)]
+
 ghost use Rattle.std.specs.Prelude.{◌≡◌};
 ghost use Rattle.text_lines.specs.Lines.{line_at};
 ghost use Rattle.dump_reader.specs.Header.{first_lines};
 
 use text_lines::Line;
 
-#[derive(Drop)]
+#[derive(Clone, Copy)]
 pub struct DumpReader<'a> {
     pub text: &'a [u8],
     pub at: usize,
@@ -29,7 +31,7 @@ pub fn next_line<'s, 'a>(r: &'s mut DumpReader<'a>) -> Line
 }
 
 // The four header lines, as a reader meets them.
-#[derive(Drop)]
+#[derive(Clone, Copy)]
 pub struct FirstLines {
     pub one: Line,
     pub two: Line,
@@ -37,6 +39,7 @@ pub struct FirstLines {
     pub four: Line,
 }
 
+#[tactic(auto, unfolding(crate::specs::Header::first_lines))]
 pub fn first_lines(text: &[u8]) -> FirstLines
     ensures { result ≡ first_lines text.now }
 {

@@ -1,4 +1,6 @@
 // The words' lines, put into a lent buffer at a place. 01, "The dump player".
+#![tactic(auto)]
+
 ghost use Rattle.std.specs.Prelude.{◌≡◌};
 ghost use Rattle.dump_words.specs.Words.{words_laid, words_place};
 

@@ -9,7 +9,7 @@ use Rattle.text_fields.specs.Fields.{hex_byte}
 use Rattle.registers.specs.Writes.{applied_in_order, registers_from}
 use Rattle.registers.specs.declared.Voice.{Voice}
 use Rattle.write_effects.specs.Effects.{changes_in, differences, restarts_in}
-use Rattle.write_effects.proofs.Laws.{bytes_left, each-once}
+use Rattle.write_effects.proofs.Laws.{bytes_left_lem, each-once}
 use Rattle.dump_writes.specs.Writes.{registers_written, frame_writes}
 use Rattle.dump_writes.proofs.Writing.{ff-written, other-written}
 
@@ -31,7 +31,7 @@ module _ (value : List ℕ) where
   unfolding frame_writes
   frame-changes v e d =
       rw e at d
-      ∙ ap (differences 14 0 v.registers) (bytes_left (registers_from (registers_written value) 0 (hex_byte value)) v)
+      ∙ ap (differences 14 0 v.registers) (bytes_left_lem (registers_from (registers_written value) 0 (hex_byte value)) v)
       ∙ sym (each-once (hex_byte value) (registers_written value) 0 v.registers (omega (arith, at_most)))
 
   as_many : (n k : ℕ) → length (registers_from n k (hex_byte value)) ≡ n

@@ -1,4 +1,6 @@
 // What a frame of a dump writes. 01, "The dump player", as request 02 amends it; 02, request 03.
+#![tactic(auto)]
+
 ghost use Rattle.std.specs.Prelude.{true, ◌≡◌, ℕ, ◌<◌, get_or};
 ghost use Rattle.text_fields.specs.Fields.{hex_byte};
 ghost use Rattle.dump_lines.specs.OneLine.{is_frame};

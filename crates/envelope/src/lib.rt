@@ -1,4 +1,6 @@
 // The envelope. 01, "Power-on and reset", "Registers and ports" and "One tick, one word"; the crate's generators.rs.
+#![tactic(auto)]
+
 ghost use Rattle.std.specs.Prelude.{◌≡◌};
 ghost use Rattle.envelope_wave.specs.Wave.{wave_of};
 ghost use Rattle.envelope.specs.Envelope.{envelope_tick, envelope_reset, envelope_set, shaped, restarted, next_position, row_place, envelope_level};
@@ -8,7 +10,7 @@ use envelope_wave::Wave;
 
 // `offset` is where the shape's row begins.
 #[repr(C)]
-#[derive(Drop)]
+#[derive(Clone, Copy)]
 pub struct Envelope {
     pub counter: u16,
     pub period: u16,

@@ -1,5 +1,7 @@
 // The envelope's shapes: where a shape's row begins, and the entry at a place of a row, worked out from the shape's four bits. 01, "One tick,
 // one word", and Yamaha's manual; the crate's tables.rs has 1,280 entries in their place (02, request 06).
+#![tactic(auto)]
+
 ghost use Rattle.std.specs.Prelude.{◌≡◌, ◌%◌, ◌<◌};
 ghost use Rattle.envelope_shapes.specs.Shapes.{ramp, by_bits, first_of_row, offset_of, envelope_entry};
 

@@ -1,5 +1,7 @@
 // What the four segments of a shape do, worked out once for a shape, so that a word finds its entry with no test. No rule of its own: at every
 // place of a real row it is the entry of `envelope_shapes` (proofs/Entries.antt). 01, "One tick, one word".
+#![tactic(auto)]
+
 ghost use Rattle.std.specs.Prelude.{◌≡◌, ◌<◌};
 ghost use Rattle.envelope_wave.specs.Wave.{at_step, wave_of, IsWave, wave_entry};
 
@@ -7,7 +9,7 @@ use envelope_shapes::envelope_entry;
 
 // A byte to a segment, the first lowest: 31 in `keeps` where it moves, 31 in `turns` where it is turned over, that is falls or is held high.
 // `offset` is where the shape's row begins.
-#[derive(Drop)]
+#[derive(Clone, Copy)]
 pub struct Wave {
     pub keeps: u32,
     pub turns: u32,

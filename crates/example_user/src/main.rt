@@ -1,22 +1,24 @@
 // A caller's crate, to copy: a chip is made, written to and rendered. Prints the words of examples/worked.dump.
+#![tactic(auto)]
+
 ghost use Rattle.std.specs.Prelude.{◌≡◌};
 ghost use Rattle.calls_making.specs.Making.{with_clocks};
 ghost use Rattle.calls_registers.specs.Stored.{loaded_registers, wrote_register};
 ghost use Rattle.calls_words.specs.Blocks.{block_buffer};
 
-fn main() {
+use std::io;
+
+fn main(rt: HostRuntime) -> io::Result<()> {
     let tone = [2, 0, 0, 0, 0, 0, 0, 0x3e, 0, 0, 0, 0, 0, 0, 0, 0];
     let mut out = [0u16; 4];
     let no = render(tone, &mut out);
     if no != 0 {
-        io::write_all(1, b"refused=");
-        print_line(no as u16);
-        return;
+        return println!(rt; "refused={no}");
     }
-    print_line(out[0]);
-    print_line(out[1]);
-    print_line(out[2]);
-    print_line(out[3]);
+    for word in &out {
+        println!(rt; "{word}")?;
+    }
+    Ok(())
 }
 
 // Answers 0, or the number of the call that was refused. A write answers 0 or 22; 22 leaves the chip, and the block answers it again.
@@ -32,9 +34,4 @@ fn render(registers: [u8; 16], out: &mut [u16]) -> u8
     let loud = calls::write_register(tone.chip, 8, 15);
     let played = calls::block(loud.chip, out);
     played.answer.no
-}
-
-fn print_line(n: u16) {
-    io::print_decimal(1, n as u64);
-    io::write_all(1, b"\n");
 }

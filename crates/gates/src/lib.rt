@@ -1,10 +1,12 @@
 // Which channels are let through. 01, "Registers and ports" and "One tick, one word"; the crate's mixer.rs.
+#![tactic(auto)]
+
 ghost use Rattle.std.specs.Prelude.{◌≡◌};
 ghost use Rattle.gates.specs.Gates.{gates_from, gate_of};
 
 // R7 as masks over fifteen bits, five to a channel; a set bit holds the gate open.
 #[repr(C)]
-#[derive(Drop)]
+#[derive(Clone, Copy)]
 pub struct Gates {
     pub tone: u32,
     pub noise: u32,

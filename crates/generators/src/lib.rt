@@ -1,4 +1,6 @@
 // All generators together. 01, "Power-on and reset" and "One tick, one word"; the crate's generators.rs.
+#![tactic(auto)]
+
 ghost use Rattle.std.specs.Prelude.{◌≡◌};
 ghost use Rattle.generators.specs.Reset.{generators_reset, generators_new};
 ghost use Rattle.generators.specs.Generators.{tick, edges_of, tone_at, put_tone, tones_set, tones_released};
@@ -8,7 +10,7 @@ use noise::Noise;
 use tone::{BITS_A, BITS_B, BITS_C, Tone};
 
 #[repr(C)]
-#[derive(Drop)]
+#[derive(Clone, Copy)]
 pub struct Generators {
     pub a: Tone,
     pub b: Tone,

@@ -10,7 +10,7 @@ use Rattle.refusals.specs.Numbers.{accepted, out_of_range}
 use Rattle.registers.specs.declared.Voice.{Voice}
 use Rattle.registers.specs.Writes.{RegisterWrite, applied_in_order, loaded, load_writes, registers_from}
 use Rattle.write_effects.specs.Effects.{differences, restarts_in}
-use Rattle.write_effects.proofs.Laws.{bytes_left, bytes_left, changes-few, each-once, no-differences, restarts-few}
+use Rattle.write_effects.proofs.Laws.{bytes_left, bytes_left_lem, changes-few, each-once, no-differences, restarts-few}
 use Rattle.queue.specs.Waiting.{waiting}
 use Rattle.queue.proofs.Ring.{length-waiting}
 use Rattle.queue_flush.specs.Applied.{register_writes}
@@ -31,7 +31,7 @@ module _ (c d : Chip) (writes : List RegisterWrite) where
   Does = voice_of d ≡ applied_in_order writes (voice_of c)
 
   bytes : Does → bytes_of d ≡ bytes_left writes (bytes_of c)
-  bytes e = ap (λ (v : Voice). v.registers) e ∙ bytes_left writes (voice_of c)
+  bytes e = ap (λ (v : Voice). v.registers) e ∙ bytes_left_lem writes (voice_of c)
 
   -- at most as many as `most`, which is the list's length where the record passes
   told : (t : Bool) (most : ℕ) → Does → (t ≡ true → length writes ≤ most)
@@ -79,7 +79,7 @@ module _ (bytes : List ℕ) (c : Chip) where
           w.answer.changed ≡ differences 14 0 (bytes_of c) (bytes_of w.chip)
       by_both true =
           each-once (λ register. get_or bytes register 0) 14 0 (bytes_of c) (omega arith)
-          ∙ ap (differences 14 0 (bytes_of c)) (sym (bytes_left (load_writes bytes) (voice_of c)))
+          ∙ ap (differences 14 0 (bytes_of c)) (sym (bytes_left_lem (load_writes bytes) (voice_of c)))
       by_both false = sym (no-differences 14 0 (bytes_of c))
 
 -- as many as wait

@@ -8,7 +8,7 @@ use lib.ListN.{length, length-append}
 use Rattle.refusals.specs.Numbers.{accepted, out_of_range}
 use Rattle.laws.proofs.Tests.{by_cond, by-eq}
 use Rattle.registers.specs.Writes.{RegisterWrite}
-use Rattle.write_effects.proofs.Laws.{bytes_left, bytes_left, changes-few, restarts-few}
+use Rattle.write_effects.proofs.Laws.{bytes_left, bytes_left_lem, changes-few, restarts-few}
 use Rattle.queue.specs.declared.Write.{Write}
 use Rattle.queue.specs.Waiting.{waiting}
 use Rattle.queue.proofs.Due.{due-late}
@@ -33,7 +33,7 @@ writes_of n c = register_writes (applied_of n c)
 -- ---- the bytes after words
 one-bytes : (c : Chip) → bytes_of (after_one c) ≡ bytes_left (register_writes (applied_by c.core c.queue)) (bytes_of c)
 unfolding word_of drained drain
-one-bytes c = bytes_left (register_writes (applied_by c.core c.queue)) c.core.voice
+one-bytes c = bytes_left_lem (register_writes (applied_by c.core c.queue)) c.core.voice
 
 pub words-bytes : (n : ℕ) (c : Chip) → bytes_of (after_words n c) ≡ bytes_left (writes_of n c) (bytes_of c)
 unfolding after_words applied_of register_writes

@@ -7,7 +7,7 @@ use lib.ListN.{length}
 use Rattle.refusals.specs.Numbers.{accepted}
 use Rattle.registers.specs.Writes.{RegisterWrite}
 use Rattle.write_effects.specs.Effects.{changes_in, restarts_in}
-use Rattle.write_effects.proofs.Laws.{bytes_left, bytes_left, changes-append, restarts-append}
+use Rattle.write_effects.proofs.Laws.{bytes_left_lem, bytes_left, changes-append, restarts-append}
 use Rattle.queue_flush.specs.Applied.{register_writes}
 use Rattle.chip.specs.declared.Chip.{Chip}
 use Rattle.clocking_block.specs.Block.{applied_of}
@@ -49,7 +49,7 @@ module _ (value out : List ℕ) (c : Chip) (e : (frame_played value (length out)
   -- the block's writes find the bytes that the frame's left
   found : bytes_of d ≡ bytes_left (frame_writes value) (bytes_of c)
   unfolding frame_chip
-  found = bytes_left (frame_writes value) c.core.voice
+  found = bytes_left_lem (frame_writes value) c.core.voice
 
   changed : (frame_played value (length out) c).answer.changed ≡ changes_in (frame_applies value (length out) c) (bytes_of c)
   unfolding frame_applies

@@ -1,33 +1,33 @@
 -- Each by the law of its promise's form (`Laws`). Assumes nothing.
 use Rattle.laws_one_answer.specs.Chip.{ByValue}
-use Rattle.laws_one_answer.proofs.Laws.{by_answer, by-buffer}
+use Rattle.laws_one_answer.proofs.Laws.{by_answer, by_buffer}
 
 pub by_value : ByValue
 by_value =
     record {
       new = λ h x y. by_answer h.𝓤;
-      with-clocks = λ h x y. by_answer h.𝓤;
-      with-variant = λ h x y. by_answer h.𝓤;
+      with_clocks = λ h x y. by_answer h.𝓤;
+      with_variant = λ h x y. by_answer h.𝓤;
       reset = λ h x y. by_answer h.𝓤;
-      write-register = λ h x y. by_answer h.𝓤;
-      load-registers = λ h x y. by_answer h.𝓤;
-      write-port = λ h x y. by_answer h.𝓤;
-      write-port-immediate = λ h x y. by_answer h.𝓤;
-      set-cpu-cycle = λ h x y. by_answer h.𝓤;
-      sync-sample-cycle = λ h x y. by_answer h.𝓤;
-      flush-pending-writes = λ h x y. by_answer h.𝓤;
-      set-timer-irq-state = λ h x y. by_answer h.𝓤;
-      inside-timer-irq = λ h x y. by_answer h.𝓤;
-      trigger-envelope = λ h x y. by_answer h.𝓤;
-      set-channel-mute = λ h x y. by_answer h.𝓤;
-      set-drum-sample-override = λ h x y. by_answer h.𝓤;
-      compute-next-sample = λ h x y. by_answer h.𝓤;
-      block = λ h x y. by-buffer h.𝓤 (λ w. (tt, (w, tt)));
-      read-register = λ h x y. by_answer h.𝓤;
-      dump-registers = λ h x y. by_answer h.𝓤;
-      read-port = λ h x y. by_answer h.𝓤;
-      cpu-cycle = λ h x y. by_answer h.𝓤;
-      pending-write-count = λ h x y. by_answer h.𝓤;
-      is-channel-muted = λ h x y. by_answer h.𝓤;
-      get-channel-outputs = λ h x y. by_answer h.𝓤;
+      write_register = λ h x y. by_answer h.𝓤;
+      load_registers = λ h x y. by_answer h.𝓤;
+      write_port = λ h x y. by_answer h.𝓤;
+      write_port_immediate = λ h x y. by_answer h.𝓤;
+      set_cpu_cycle = λ h x y. by_answer h.𝓤;
+      sync_sample_cycle = λ h x y. by_answer h.𝓤;
+      flush_pending_writes = λ h x y. by_answer h.𝓤;
+      set_timer_irq_state = λ h x y. by_answer h.𝓤;
+      inside_timer_irq = λ h x y. by_answer h.𝓤;
+      trigger_envelope = λ h x y. by_answer h.𝓤;
+      set_channel_mute = λ h x y. by_answer h.𝓤;
+      set_drum_sample_override = λ h x y. by_answer h.𝓤;
+      compute_next_sample = λ h x y. by_answer h.𝓤;
+      block = λ h x y. by_buffer h.𝓤 (λ w. (tt, (w, tt)));
+      read_register = λ h x y. by_answer h.𝓤;
+      dump_registers = λ h x y. by_answer h.𝓤;
+      read_port = λ h x y. by_answer h.𝓤;
+      cpu_cycle = λ h x y. by_answer h.𝓤;
+      pending_write_count = λ h x y. by_answer h.𝓤;
+      is_channel_muted = λ h x y. by_answer h.𝓤;
+      get_channel_outputs = λ h x y. by_answer h.𝓤;
     }

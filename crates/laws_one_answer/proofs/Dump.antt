@@ -6,7 +6,7 @@ use denote.Ref.{Bor}
 use Rattle.text_lines.specs.declared.Line.{Line}
 use Rattle.dump_reader.specs.declared.DumpReader.{DumpReader}
 use Rattle.laws_one_answer.specs.Dump.{Played}
-use Rattle.laws_one_answer.proofs.Laws.{same, both, by_answer, by_first, by-buffer}
+use Rattle.laws_one_answer.proofs.Laws.{same, both, by_answer, by_first, by_buffer}
 
 -- readers of one text at one place
 readers : {r s : DumpReader} {text : Bor (List ℕ)} {at : ℕ} → r.text ≡ text → r.at ≡ at → s.text ≡ text → s.at ≡ at → r ≡ s
@@ -20,41 +20,41 @@ pub played : Played
 played =
     record {
       decimal = λ h x y. by_answer h.𝓤;
-      leading-zero = λ h x y. by_answer h.𝓤;
-      all-hex = λ h x y. by_answer h.𝓤;
-      hex-byte = λ h x y. by_answer h.𝓤;
+      leading_zero = λ h x y. by_answer h.𝓤;
+      all_hex = λ h x y. by_answer h.𝓤;
+      hex_byte = λ h x y. by_answer h.𝓤;
       line_at = λ h x y. by_answer h.𝓤;
-      value-at = λ h x y. both h.𝓤 same;
+      value_at = λ h x y. both h.𝓤 same;
       reader = λ h x y. both h.𝓤 (λ p q i. (readers p.0 p.1 q.0 q.1 i, x.1));
-      next-line = λ h x y. both h.𝓤 (λ p q i. (same p.0 q.0 i, (readers p.1 (end p.0 p.2) q.1 (end q.0 q.2) i, x.1.1)));
-      first-lines = λ h x y. by_answer h.𝓤;
-      clock-lines = λ h x y. by_answer h.𝓤;
-      frames-read = λ h x y. by_answer h.𝓤;
+      next_line = λ h x y. both h.𝓤 (λ p q i. (same p.0 q.0 i, (readers p.1 (end p.0 p.2) q.1 (end q.0 q.2) i, x.1.1)));
+      first_lines = λ h x y. by_answer h.𝓤;
+      clock_lines = λ h x y. by_answer h.𝓤;
+      frames_read = λ h x y. by_answer h.𝓤;
       check = λ h x y. by_answer h.𝓤;
-      is-frame = λ h x y. by_answer h.𝓤;
-      line-entry-at = λ h x y. by_answer h.𝓤;
-      master-line-no = λ h x y. by_answer h.𝓤;
-      rate-line-no = λ h x y. by_answer h.𝓤;
-      words-line-no = λ h x y. by_answer h.𝓤;
-      frames-line-no = λ h x y. by_answer h.𝓤;
+      is_frame = λ h x y. by_answer h.𝓤;
+      line_entry_at = λ h x y. by_answer h.𝓤;
+      master_line_no = λ h x y. by_answer h.𝓤;
+      rate_line_no = λ h x y. by_answer h.𝓤;
+      words_line_no = λ h x y. by_answer h.𝓤;
+      frames_line_no = λ h x y. by_answer h.𝓤;
       frame_at = λ h x y. by_answer h.𝓤;
       restarts = λ h x y. by_answer h.𝓤;
-      write-frame = λ h x y. by_answer h.𝓤;
-      load-frame = λ h x y. by_answer h.𝓤;
-      play-frame = λ h x y. by-buffer h.𝓤 (λ w. (tt, (tt, (tt, (w, tt)))));
-      put-bytes = λ h x y. by-buffer h.𝓤 (λ w. (w, (tt, (tt, tt))));
-      put-number = λ h x y. by-buffer h.𝓤 (λ w. (w, (tt, (tt, (tt, tt)))));
-      put-decimal = λ h x y. by-buffer h.𝓤 (λ w. (w, (tt, (tt, tt))));
-      put-hex = λ h x y. by-buffer h.𝓤 (λ w. (w, (tt, (tt, (tt, tt)))));
-      put-words = λ h x y. by-buffer h.𝓤 (λ w. (w, (tt, (tt, tt))));
-      put-first-line = λ h x y. by-buffer h.𝓤 (λ w. (w, (tt, tt)));
-      first-line-given = λ h x y. by_answer h.𝓤;
-      frame-due = λ h x y. by_answer h.𝓤;
-      frame-begins = λ h x y. by_answer h.𝓤;
-      words-in = λ h x y. by_answer h.𝓤;
-      words-for = λ h x y. by_answer h.𝓤;
-      words-given = λ h x y. by_answer h.𝓤;
+      write_frame = λ h x y. by_answer h.𝓤;
+      load_frame = λ h x y. by_answer h.𝓤;
+      play_frame = λ h x y. by_buffer h.𝓤 (λ w. (tt, (tt, (tt, (w, tt)))));
+      put_bytes = λ h x y. by_buffer h.𝓤 (λ w. (w, (tt, (tt, tt))));
+      put_number = λ h x y. by_buffer h.𝓤 (λ w. (w, (tt, (tt, (tt, tt)))));
+      put_decimal = λ h x y. by_buffer h.𝓤 (λ w. (w, (tt, (tt, tt))));
+      put_hex = λ h x y. by_buffer h.𝓤 (λ w. (w, (tt, (tt, (tt, tt)))));
+      put_words = λ h x y. by_buffer h.𝓤 (λ w. (w, (tt, (tt, tt))));
+      put_first_line = λ h x y. by_buffer h.𝓤 (λ w. (w, (tt, tt)));
+      first_line_given = λ h x y. by_answer h.𝓤;
+      frame_due = λ h x y. by_answer h.𝓤;
+      frame_begins = λ h x y. by_answer h.𝓤;
+      words_in = λ h x y. by_answer h.𝓤;
+      words_for = λ h x y. by_answer h.𝓤;
+      words_given = λ h x y. by_answer h.𝓤;
       start = λ h x y. by_answer h.𝓤;
-      next-piece = λ h x y. by-buffer h.𝓤 (λ w. (tt, (tt, (w, tt))));
+      next_piece = λ h x y. by_buffer h.𝓤 (λ w. (tt, (tt, (w, tt))));
       room = λ h x y. by_first h.𝓤;
     }

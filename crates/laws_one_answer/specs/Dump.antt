@@ -1,81 +1,81 @@
 -- The calls of the dump player are settled, what they leave in lent buffers included (`Settled`). Assumes nothing.
 use Rattle.text_fields.specs.contracts.decimal
-use Rattle.text_fields.specs.contracts.leading_zero as leading-zero
-use Rattle.text_fields.specs.contracts.all_hex as all-hex
-use Rattle.text_fields.specs.contracts.hex_byte as hex-byte
-use Rattle.text_lines.specs.contracts.line_at as line_at
-use Rattle.text_lines.specs.contracts.value_at as value-at
+use Rattle.text_fields.specs.contracts.leading_zero
+use Rattle.text_fields.specs.contracts.all_hex
+use Rattle.text_fields.specs.contracts.hex_byte
+use Rattle.text_lines.specs.contracts.line_at
+use Rattle.text_lines.specs.contracts.value_at
 use Rattle.dump_reader.specs.contracts.reader
-use Rattle.dump_reader.specs.contracts.next_line as next-line
-use Rattle.dump_reader.specs.contracts.first_lines as first-lines
-use Rattle.dump_clocks.specs.contracts.clock_lines as clock-lines
-use Rattle.dump_body.specs.contracts.frames_read as frames-read
+use Rattle.dump_reader.specs.contracts.next_line
+use Rattle.dump_reader.specs.contracts.first_lines
+use Rattle.dump_clocks.specs.contracts.clock_lines
+use Rattle.dump_body.specs.contracts.frames_read
 use Rattle.dump.specs.contracts.check
-use Rattle.dump_lines.specs.contracts.is_frame as is-frame
-use Rattle.text_entries.specs.contracts.line_entry_at as line-entry-at
-use Rattle.dump_lines.specs.contracts.master_line_no as master-line-no
-use Rattle.dump_lines.specs.contracts.rate_line_no as rate-line-no
-use Rattle.dump_lines.specs.contracts.words_line_no as words-line-no
-use Rattle.dump_lines.specs.contracts.frames_line_no as frames-line-no
-use Rattle.dump_lines.specs.contracts.frame_at as frame_at
+use Rattle.dump_lines.specs.contracts.is_frame
+use Rattle.text_entries.specs.contracts.line_entry_at
+use Rattle.dump_lines.specs.contracts.master_line_no
+use Rattle.dump_lines.specs.contracts.rate_line_no
+use Rattle.dump_lines.specs.contracts.words_line_no
+use Rattle.dump_lines.specs.contracts.frames_line_no
+use Rattle.dump_lines.specs.contracts.frame_at
 use Rattle.dump_writes.specs.contracts.restarts
-use Rattle.dump_writes.specs.contracts.write_frame as write-frame
-use Rattle.dump_frames.specs.contracts.load_frame as load-frame
-use Rattle.dump_frames.specs.contracts.play_frame as play-frame
-use Rattle.text_put.specs.contracts.put_bytes as put-bytes
-use Rattle.text_put.specs.contracts.put_number as put-number
-use Rattle.text_put.specs.contracts.put_decimal as put-decimal
-use Rattle.text_put.specs.contracts.put_hex as put-hex
-use Rattle.dump_words.specs.contracts.put_words as put-words
-use Rattle.dump_output.specs.contracts.put_first_line as put-first-line
-use Rattle.dump_progress.specs.contracts.first_line_given as first-line-given
-use Rattle.dump_progress.specs.contracts.frame_due as frame-due
-use Rattle.dump_progress.specs.contracts.frame_begins as frame-begins
-use Rattle.dump_progress.specs.contracts.words_for as words-for
-use Rattle.dump_progress.specs.contracts.words_in as words-in
-use Rattle.dump_progress.specs.contracts.words_given as words-given
+use Rattle.dump_writes.specs.contracts.write_frame
+use Rattle.dump_frames.specs.contracts.load_frame
+use Rattle.dump_frames.specs.contracts.play_frame
+use Rattle.text_put.specs.contracts.put_bytes
+use Rattle.text_put.specs.contracts.put_number
+use Rattle.text_put.specs.contracts.put_decimal
+use Rattle.text_put.specs.contracts.put_hex
+use Rattle.dump_words.specs.contracts.put_words
+use Rattle.dump_output.specs.contracts.put_first_line
+use Rattle.dump_progress.specs.contracts.first_line_given
+use Rattle.dump_progress.specs.contracts.frame_due
+use Rattle.dump_progress.specs.contracts.frame_begins
+use Rattle.dump_progress.specs.contracts.words_for
+use Rattle.dump_progress.specs.contracts.words_in
+use Rattle.dump_progress.specs.contracts.words_given
 use Rattle.dump_player.specs.contracts.start
-use Rattle.dump_player.specs.contracts.next_piece as next-piece
+use Rattle.dump_player.specs.contracts.next_piece
 use Rattle.dump_input.specs.contracts.room
 use Rattle.laws_one_answer.specs.Settled.{Settles, SettlesAs}
 
 pub record Played : Type 2 where
-  pub decimal : Settles decimal.ended (λ M. decimal.clauses)
-  pub leading-zero : Settles leading-zero.ended (λ M. leading-zero.clauses)
-  pub all-hex : Settles all-hex.ended (λ M. all-hex.clauses)
-  pub hex-byte : Settles hex-byte.ended (λ M. hex-byte.clauses)
-  pub line_at : Settles line_at.ended (λ M. line_at.clauses)
+  pub decimal : Settles decimal.ended (λ M 𝓤. decimal.clauses)
+  pub leading_zero : Settles leading_zero.ended (λ M 𝓤. leading_zero.clauses)
+  pub all_hex : Settles all_hex.ended (λ M 𝓤. all_hex.clauses)
+  pub hex_byte : Settles hex_byte.ended (λ M 𝓤. hex_byte.clauses)
+  pub line_at : Settles line_at.ended (λ M 𝓤. line_at.clauses)
   -- a part of the caller's text: its bytes are settled; where they lie, no promise says
-  pub value-at : SettlesAs value-at.ended (λ M. value-at.clauses) (λ h x. x.0.now)
-  pub reader : Settles reader.ended (λ M. reader.clauses)
-  pub next-line : Settles next-line.ended (λ M. next-line.clauses)
-  pub first-lines : Settles first-lines.ended (λ M. first-lines.clauses)
-  pub clock-lines : Settles clock-lines.ended (λ M. clock-lines.clauses)
-  pub frames-read : Settles frames-read.ended (λ M. frames-read.clauses)
-  pub check : Settles check.ended (λ M. check.clauses)
-  pub is-frame : Settles is-frame.ended (λ M. is-frame.clauses)
-  pub line-entry-at : Settles line-entry-at.ended (λ M. line-entry-at.clauses)
-  pub master-line-no : Settles master-line-no.ended (λ M. master-line-no.clauses)
-  pub rate-line-no : Settles rate-line-no.ended (λ M. rate-line-no.clauses)
-  pub words-line-no : Settles words-line-no.ended (λ M. words-line-no.clauses)
-  pub frames-line-no : Settles frames-line-no.ended (λ M. frames-line-no.clauses)
-  pub frame_at : Settles frame_at.ended (λ M. frame_at.clauses)
-  pub restarts : Settles restarts.ended (λ M. restarts.clauses)
-  pub write-frame : Settles write-frame.ended (λ M. write-frame.clauses)
-  pub load-frame : Settles load-frame.ended (λ M. load-frame.clauses)
-  pub play-frame : Settles play-frame.ended (λ M. play-frame.clauses)
-  pub put-bytes : Settles put-bytes.ended (λ M. put-bytes.clauses)
-  pub put-number : Settles put-number.ended (λ M. put-number.clauses)
-  pub put-decimal : Settles put-decimal.ended (λ M. put-decimal.clauses)
-  pub put-hex : Settles put-hex.ended (λ M. put-hex.clauses)
-  pub put-words : Settles put-words.ended (λ M. put-words.clauses)
-  pub put-first-line : Settles put-first-line.ended (λ M. put-first-line.clauses)
-  pub first-line-given : Settles first-line-given.ended (λ M. first-line-given.clauses)
-  pub frame-due : Settles frame-due.ended (λ M. frame-due.clauses)
-  pub frame-begins : Settles frame-begins.ended (λ M. frame-begins.clauses)
-  pub words-in : Settles words-in.ended (λ M. words-in.clauses)
-  pub words-for : Settles words-for.ended (λ M. words-for.clauses)
-  pub words-given : Settles words-given.ended (λ M. words-given.clauses)
-  pub start : Settles start.ended (λ M. start.clauses)
-  pub next-piece : Settles next-piece.ended (λ M. next-piece.clauses)
-  pub room : Settles room.ended (λ M. room.clauses)
+  pub value_at : SettlesAs value_at.ended (λ M 𝓤. value_at.clauses) (λ h x. x.0.now)
+  pub reader : Settles reader.ended (λ M 𝓤. reader.clauses)
+  pub next_line : Settles next_line.ended (λ M 𝓤. next_line.clauses)
+  pub first_lines : Settles first_lines.ended (λ M 𝓤. first_lines.clauses)
+  pub clock_lines : Settles clock_lines.ended (λ M 𝓤. clock_lines.clauses)
+  pub frames_read : Settles frames_read.ended (λ M 𝓤. frames_read.clauses)
+  pub check : Settles check.ended (λ M 𝓤. check.clauses)
+  pub is_frame : Settles is_frame.ended (λ M 𝓤. is_frame.clauses)
+  pub line_entry_at : Settles line_entry_at.ended (λ M 𝓤. line_entry_at.clauses)
+  pub master_line_no : Settles master_line_no.ended (λ M 𝓤. master_line_no.clauses)
+  pub rate_line_no : Settles rate_line_no.ended (λ M 𝓤. rate_line_no.clauses)
+  pub words_line_no : Settles words_line_no.ended (λ M 𝓤. words_line_no.clauses)
+  pub frames_line_no : Settles frames_line_no.ended (λ M 𝓤. frames_line_no.clauses)
+  pub frame_at : Settles frame_at.ended (λ M 𝓤. frame_at.clauses)
+  pub restarts : Settles restarts.ended (λ M 𝓤. restarts.clauses)
+  pub write_frame : Settles write_frame.ended (λ M 𝓤. write_frame.clauses)
+  pub load_frame : Settles load_frame.ended (λ M 𝓤. load_frame.clauses)
+  pub play_frame : Settles play_frame.ended (λ M 𝓤. play_frame.clauses)
+  pub put_bytes : Settles put_bytes.ended (λ M 𝓤. put_bytes.clauses)
+  pub put_number : Settles put_number.ended (λ M 𝓤. put_number.clauses)
+  pub put_decimal : Settles put_decimal.ended (λ M 𝓤. put_decimal.clauses)
+  pub put_hex : Settles put_hex.ended (λ M 𝓤. put_hex.clauses)
+  pub put_words : Settles put_words.ended (λ M 𝓤. put_words.clauses)
+  pub put_first_line : Settles put_first_line.ended (λ M 𝓤. put_first_line.clauses)
+  pub first_line_given : Settles first_line_given.ended (λ M 𝓤. first_line_given.clauses)
+  pub frame_due : Settles frame_due.ended (λ M 𝓤. frame_due.clauses)
+  pub frame_begins : Settles frame_begins.ended (λ M 𝓤. frame_begins.clauses)
+  pub words_in : Settles words_in.ended (λ M 𝓤. words_in.clauses)
+  pub words_for : Settles words_for.ended (λ M 𝓤. words_for.clauses)
+  pub words_given : Settles words_given.ended (λ M 𝓤. words_given.clauses)
+  pub start : Settles start.ended (λ M 𝓤. start.clauses)
+  pub next_piece : Settles next_piece.ended (λ M 𝓤. next_piece.clauses)
+  pub room : Settles room.ended (λ M 𝓤. room.clauses)

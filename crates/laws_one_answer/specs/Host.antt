@@ -1,48 +1,48 @@
 -- Every call of `cabinet_host` is settled, a block's buffer too (`Settled`). Assumes nothing.
 use Rattle.cabinet_host.specs.contracts.reset
-use Rattle.cabinet_host.specs.contracts.write_register as write-register
-use Rattle.cabinet_host.specs.contracts.load_registers as load-registers
-use Rattle.cabinet_host.specs.contracts.write_port as write-port
-use Rattle.cabinet_host.specs.contracts.write_port_immediate as write-port-immediate
-use Rattle.cabinet_host.specs.contracts.set_cpu_cycle as set-cpu-cycle
-use Rattle.cabinet_host.specs.contracts.sync_sample_cycle as sync-sample-cycle
-use Rattle.cabinet_host.specs.contracts.flush_pending_writes as flush-pending-writes
-use Rattle.cabinet_host.specs.contracts.set_timer_irq_state as set-timer-irq-state
-use Rattle.cabinet_host.specs.contracts.inside_timer_irq as inside-timer-irq
-use Rattle.cabinet_host.specs.contracts.trigger_envelope as trigger-envelope
-use Rattle.cabinet_host.specs.contracts.set_channel_mute as set-channel-mute
-use Rattle.cabinet_host.specs.contracts.set_drum_sample_override as set-drum-sample-override
-use Rattle.cabinet_host.specs.contracts.compute_next_sample as compute-next-sample
+use Rattle.cabinet_host.specs.contracts.write_register
+use Rattle.cabinet_host.specs.contracts.load_registers
+use Rattle.cabinet_host.specs.contracts.write_port
+use Rattle.cabinet_host.specs.contracts.write_port_immediate
+use Rattle.cabinet_host.specs.contracts.set_cpu_cycle
+use Rattle.cabinet_host.specs.contracts.sync_sample_cycle
+use Rattle.cabinet_host.specs.contracts.flush_pending_writes
+use Rattle.cabinet_host.specs.contracts.set_timer_irq_state
+use Rattle.cabinet_host.specs.contracts.inside_timer_irq
+use Rattle.cabinet_host.specs.contracts.trigger_envelope
+use Rattle.cabinet_host.specs.contracts.set_channel_mute
+use Rattle.cabinet_host.specs.contracts.set_drum_sample_override
+use Rattle.cabinet_host.specs.contracts.compute_next_sample
 use Rattle.cabinet_host.specs.contracts.block
-use Rattle.cabinet_host.specs.contracts.read_register as read-register
-use Rattle.cabinet_host.specs.contracts.dump_registers as dump-registers
-use Rattle.cabinet_host.specs.contracts.read_port as read-port
-use Rattle.cabinet_host.specs.contracts.cpu_cycle as cpu-cycle
-use Rattle.cabinet_host.specs.contracts.pending_write_count as pending-write-count
-use Rattle.cabinet_host.specs.contracts.is_channel_muted as is-channel-muted
-use Rattle.cabinet_host.specs.contracts.get_channel_outputs as get-channel-outputs
+use Rattle.cabinet_host.specs.contracts.read_register
+use Rattle.cabinet_host.specs.contracts.dump_registers
+use Rattle.cabinet_host.specs.contracts.read_port
+use Rattle.cabinet_host.specs.contracts.cpu_cycle
+use Rattle.cabinet_host.specs.contracts.pending_write_count
+use Rattle.cabinet_host.specs.contracts.is_channel_muted
+use Rattle.cabinet_host.specs.contracts.get_channel_outputs
 use Rattle.laws_one_answer.specs.Settled.{Settles}
 
 pub record Owned : Type 2 where
-  pub reset : Settles reset.ended (λ M. reset.clauses)
-  pub write-register : Settles write-register.ended (λ M. write-register.clauses)
-  pub load-registers : Settles load-registers.ended (λ M. load-registers.clauses)
-  pub write-port : Settles write-port.ended (λ M. write-port.clauses)
-  pub write-port-immediate : Settles write-port-immediate.ended (λ M. write-port-immediate.clauses)
-  pub set-cpu-cycle : Settles set-cpu-cycle.ended (λ M. set-cpu-cycle.clauses)
-  pub sync-sample-cycle : Settles sync-sample-cycle.ended (λ M. sync-sample-cycle.clauses)
-  pub flush-pending-writes : Settles flush-pending-writes.ended (λ M. flush-pending-writes.clauses)
-  pub set-timer-irq-state : Settles set-timer-irq-state.ended (λ M. set-timer-irq-state.clauses)
-  pub inside-timer-irq : Settles inside-timer-irq.ended (λ M. inside-timer-irq.clauses)
-  pub trigger-envelope : Settles trigger-envelope.ended (λ M. trigger-envelope.clauses)
-  pub set-channel-mute : Settles set-channel-mute.ended (λ M. set-channel-mute.clauses)
-  pub set-drum-sample-override : Settles set-drum-sample-override.ended (λ M. set-drum-sample-override.clauses)
-  pub compute-next-sample : Settles compute-next-sample.ended (λ M. compute-next-sample.clauses)
-  pub block : Settles block.ended (λ M. block.clauses)
-  pub read-register : Settles read-register.ended (λ M. read-register.clauses)
-  pub dump-registers : Settles dump-registers.ended (λ M. dump-registers.clauses)
-  pub read-port : Settles read-port.ended (λ M. read-port.clauses)
-  pub cpu-cycle : Settles cpu-cycle.ended (λ M. cpu-cycle.clauses)
-  pub pending-write-count : Settles pending-write-count.ended (λ M. pending-write-count.clauses)
-  pub is-channel-muted : Settles is-channel-muted.ended (λ M. is-channel-muted.clauses)
-  pub get-channel-outputs : Settles get-channel-outputs.ended (λ M. get-channel-outputs.clauses)
+  pub reset : Settles reset.ended (λ M 𝓤. reset.clauses)
+  pub write_register : Settles write_register.ended (λ M 𝓤. write_register.clauses)
+  pub load_registers : Settles load_registers.ended (λ M 𝓤. load_registers.clauses)
+  pub write_port : Settles write_port.ended (λ M 𝓤. write_port.clauses)
+  pub write_port_immediate : Settles write_port_immediate.ended (λ M 𝓤. write_port_immediate.clauses)
+  pub set_cpu_cycle : Settles set_cpu_cycle.ended (λ M 𝓤. set_cpu_cycle.clauses)
+  pub sync_sample_cycle : Settles sync_sample_cycle.ended (λ M 𝓤. sync_sample_cycle.clauses)
+  pub flush_pending_writes : Settles flush_pending_writes.ended (λ M 𝓤. flush_pending_writes.clauses)
+  pub set_timer_irq_state : Settles set_timer_irq_state.ended (λ M 𝓤. set_timer_irq_state.clauses)
+  pub inside_timer_irq : Settles inside_timer_irq.ended (λ M 𝓤. inside_timer_irq.clauses)
+  pub trigger_envelope : Settles trigger_envelope.ended (λ M 𝓤. trigger_envelope.clauses)
+  pub set_channel_mute : Settles set_channel_mute.ended (λ M 𝓤. set_channel_mute.clauses)
+  pub set_drum_sample_override : Settles set_drum_sample_override.ended (λ M 𝓤. set_drum_sample_override.clauses)
+  pub compute_next_sample : Settles compute_next_sample.ended (λ M 𝓤. compute_next_sample.clauses)
+  pub block : Settles block.ended (λ M 𝓤. block.clauses)
+  pub read_register : Settles read_register.ended (λ M 𝓤. read_register.clauses)
+  pub dump_registers : Settles dump_registers.ended (λ M 𝓤. dump_registers.clauses)
+  pub read_port : Settles read_port.ended (λ M 𝓤. read_port.clauses)
+  pub cpu_cycle : Settles cpu_cycle.ended (λ M 𝓤. cpu_cycle.clauses)
+  pub pending_write_count : Settles pending_write_count.ended (λ M 𝓤. pending_write_count.clauses)
+  pub is_channel_muted : Settles is_channel_muted.ended (λ M 𝓤. is_channel_muted.clauses)
+  pub get_channel_outputs : Settles get_channel_outputs.ended (λ M 𝓤. get_channel_outputs.clauses)

@@ -13,7 +13,7 @@ use prog.Routine.{Routine}
 
 -- a call's promise, as it is generated from its `ensures`: it stands in every model of the logic
 abbrev pub Promise : Ended → Type 2
-Promise T = (M : Type 1) (𝓤 : Ura M) (𝓛 : Logic 𝓤) → (Memory → SProp 𝓤) → (Routine → Fun 𝓤) → Clauses 𝓤 T
+Promise T = (M : Type 1) (𝓤 : Ura M) → Logic 𝓤 → (Memory → SProp 𝓤) → (Routine → Fun 𝓤) → Clauses 𝓤 T
 
 module _ (T : Ended) (promise : Promise T) where
   -- a model, and what is handed in
@@ -34,7 +34,7 @@ module _ (T : Ended) (promise : Promise T) where
   -- the promise holds of them
   abbrev pub Says : (h : Handed) → Left h → SProp h.𝓤
   Says h x =
-      (promise h.M h.𝓤 h h.mem h.run h.κs h.args).ensures h.ghost x.0 (at_exit T h.κs h.args x.1)
+      (promise h.M h.𝓤 h.𝓛 h.mem h.run h.κs h.args).ensures h.ghost x.0 (at_exit T h.κs h.args x.1)
 
   -- Where the promise holds of two, it is a fact that what is seen of them is equal.
   abbrev pub SettlesAs : {See : Handed → Type 0} → ((h : Handed) → Left h → See h) → Type 2

@@ -1,82 +1,82 @@
 -- Every call of `steps_*`, `c_steps`, `c_queue`, `queue_slot`, `lent_chip` and `lent_record` is settled, and the two tests by parts (`Settled`). Assumes nothing.
-use Rattle.queue.specs.contracts.ring_in as ring_in
-use Rattle.chip.specs.contracts.parts_in as parts_in
-use Rattle.lent_chip.specs.contracts.in_range as chip-in-range
-use Rattle.lent_record.specs.contracts.in_range as record-in-range
-use Rattle.steps_cycles.specs.contracts.set_cpu_cycle as set-cpu-cycle
-use Rattle.steps_cycles.specs.contracts.sync_sample_cycle as sync-sample-cycle
-use Rattle.steps_cycles.specs.contracts.cpu_cycle as cpu-cycle
-use Rattle.steps_cycles.specs.contracts.pending_write_count as pending-write-count
-use Rattle.steps_queue.specs.contracts.flush_pending_writes as flush-pending-writes
-use Rattle.queue_slot.specs.contracts.put_stamp as put-stamp
-use Rattle.queue_slot.specs.contracts.put_byte as put_byte
-use Rattle.steps_ports.specs.contracts.write_port as write-port
-use Rattle.steps_voice.specs.contracts.write_register as write-register
-use Rattle.steps_voice.specs.contracts.load_registers as load-registers
-use Rattle.steps_voice.specs.contracts.write_port_immediate as write-port-immediate
-use Rattle.steps_registers.specs.contracts.bit_1_clear as bit-1-clear
-use Rattle.steps_registers.specs.contracts.read_register as read-register
-use Rattle.steps_registers.specs.contracts.dump_registers as dump-registers
-use Rattle.steps_registers.specs.contracts.read_port as read-port
-use Rattle.steps_channels.specs.contracts.is_channel_muted as is-channel-muted
-use Rattle.steps_channels.specs.contracts.get_channel_outputs as get-channel-outputs
-use Rattle.steps_channels.specs.contracts.set_channel_mute as set-channel-mute
-use Rattle.steps_channels.specs.contracts.set_drum_sample_override as set-drum-sample-override
-use Rattle.steps_effects.specs.contracts.set_timer_irq_state as set-timer-irq-state
-use Rattle.steps_effects.specs.contracts.trigger_envelope as trigger-envelope
-use Rattle.c_steps.specs.contracts.set_cpu_cycle as c-set-cpu-cycle
-use Rattle.c_steps.specs.contracts.sync_sample_cycle as c-sync-sample-cycle
-use Rattle.c_steps.specs.contracts.settled as c-settled
-use Rattle.c_queue.specs.contracts.flush_pending_writes as c-flush-pending-writes
-use Rattle.c_steps.specs.contracts.write_register as c-write-register
-use Rattle.c_steps.specs.contracts.load_registers as c-load-registers
-use Rattle.c_steps.specs.contracts.write_port_immediate as c-write-port-immediate
-use Rattle.c_steps.specs.contracts.set_timer_irq_state as c-set-timer-irq-state
-use Rattle.c_steps.specs.contracts.trigger_envelope as c-trigger-envelope
-use Rattle.c_steps.specs.contracts.set_channel_mute as c-set-channel-mute
-use Rattle.c_steps.specs.contracts.set_drum_sample_override as c-set-drum-sample-override
-use Rattle.c_steps.specs.contracts.write_port as c-write-port
-use Rattle.steps_words.specs.contracts.compute_next_sample as step-word
+use Rattle.queue.specs.contracts.ring_in
+use Rattle.chip.specs.contracts.parts_in
+use Rattle.lent_chip.specs.contracts.in_range as chip_in_range
+use Rattle.lent_record.specs.contracts.in_range as record_in_range
+use Rattle.steps_cycles.specs.contracts.set_cpu_cycle
+use Rattle.steps_cycles.specs.contracts.sync_sample_cycle
+use Rattle.steps_cycles.specs.contracts.cpu_cycle
+use Rattle.steps_cycles.specs.contracts.pending_write_count
+use Rattle.steps_queue.specs.contracts.flush_pending_writes
+use Rattle.queue_slot.specs.contracts.put_stamp
+use Rattle.queue_slot.specs.contracts.put_byte
+use Rattle.steps_ports.specs.contracts.write_port
+use Rattle.steps_voice.specs.contracts.write_register
+use Rattle.steps_voice.specs.contracts.load_registers
+use Rattle.steps_voice.specs.contracts.write_port_immediate
+use Rattle.steps_registers.specs.contracts.bit_1_clear
+use Rattle.steps_registers.specs.contracts.read_register
+use Rattle.steps_registers.specs.contracts.dump_registers
+use Rattle.steps_registers.specs.contracts.read_port
+use Rattle.steps_channels.specs.contracts.is_channel_muted
+use Rattle.steps_channels.specs.contracts.get_channel_outputs
+use Rattle.steps_channels.specs.contracts.set_channel_mute
+use Rattle.steps_channels.specs.contracts.set_drum_sample_override
+use Rattle.steps_effects.specs.contracts.set_timer_irq_state
+use Rattle.steps_effects.specs.contracts.trigger_envelope
+use Rattle.c_steps.specs.contracts.set_cpu_cycle as c_set_cpu_cycle
+use Rattle.c_steps.specs.contracts.sync_sample_cycle as c_sync_sample_cycle
+use Rattle.c_steps.specs.contracts.settled as c_settled
+use Rattle.c_queue.specs.contracts.flush_pending_writes as c_flush_pending_writes
+use Rattle.c_steps.specs.contracts.write_register as c_write_register
+use Rattle.c_steps.specs.contracts.load_registers as c_load_registers
+use Rattle.c_steps.specs.contracts.write_port_immediate as c_write_port_immediate
+use Rattle.c_steps.specs.contracts.set_timer_irq_state as c_set_timer_irq_state
+use Rattle.c_steps.specs.contracts.trigger_envelope as c_trigger_envelope
+use Rattle.c_steps.specs.contracts.set_channel_mute as c_set_channel_mute
+use Rattle.c_steps.specs.contracts.set_drum_sample_override as c_set_drum_sample_override
+use Rattle.c_steps.specs.contracts.write_port as c_write_port
+use Rattle.steps_words.specs.contracts.compute_next_sample as step_word
 use Rattle.steps_blocks.specs.contracts.block as step_block
 use Rattle.laws_one_answer.specs.Settled.{Settles}
 
 pub record Steps : Type 2 where
-  pub ring_in : Settles ring_in.ended (λ M. ring_in.clauses)
-  pub parts_in : Settles parts_in.ended (λ M. parts_in.clauses)
-  pub chip-in-range : Settles chip-in-range.ended (λ M. chip-in-range.clauses)
-  pub record-in-range : Settles record-in-range.ended (λ M. record-in-range.clauses)
-  pub set-cpu-cycle : Settles set-cpu-cycle.ended (λ M. set-cpu-cycle.clauses)
-  pub sync-sample-cycle : Settles sync-sample-cycle.ended (λ M. sync-sample-cycle.clauses)
-  pub cpu-cycle : Settles cpu-cycle.ended (λ M. cpu-cycle.clauses)
-  pub pending-write-count : Settles pending-write-count.ended (λ M. pending-write-count.clauses)
-  pub flush-pending-writes : Settles flush-pending-writes.ended (λ M. flush-pending-writes.clauses)
-  pub put-stamp : Settles put-stamp.ended (λ M. put-stamp.clauses)
-  pub put_byte : Settles put_byte.ended (λ M. put_byte.clauses)
-  pub write-port : Settles write-port.ended (λ M. write-port.clauses)
-  pub write-register : Settles write-register.ended (λ M. write-register.clauses)
-  pub load-registers : Settles load-registers.ended (λ M. load-registers.clauses)
-  pub write-port-immediate : Settles write-port-immediate.ended (λ M. write-port-immediate.clauses)
-  pub bit-1-clear : Settles bit-1-clear.ended (λ M. bit-1-clear.clauses)
-  pub read-register : Settles read-register.ended (λ M. read-register.clauses)
-  pub dump-registers : Settles dump-registers.ended (λ M. dump-registers.clauses)
-  pub read-port : Settles read-port.ended (λ M. read-port.clauses)
-  pub is-channel-muted : Settles is-channel-muted.ended (λ M. is-channel-muted.clauses)
-  pub get-channel-outputs : Settles get-channel-outputs.ended (λ M. get-channel-outputs.clauses)
-  pub set-channel-mute : Settles set-channel-mute.ended (λ M. set-channel-mute.clauses)
-  pub set-drum-sample-override : Settles set-drum-sample-override.ended (λ M. set-drum-sample-override.clauses)
-  pub set-timer-irq-state : Settles set-timer-irq-state.ended (λ M. set-timer-irq-state.clauses)
-  pub trigger-envelope : Settles trigger-envelope.ended (λ M. trigger-envelope.clauses)
-  pub c-set-cpu-cycle : Settles c-set-cpu-cycle.ended (λ M. c-set-cpu-cycle.clauses)
-  pub c-sync-sample-cycle : Settles c-sync-sample-cycle.ended (λ M. c-sync-sample-cycle.clauses)
-  pub c-settled : Settles c-settled.ended (λ M. c-settled.clauses)
-  pub c-flush-pending-writes : Settles c-flush-pending-writes.ended (λ M. c-flush-pending-writes.clauses)
-  pub c-write-register : Settles c-write-register.ended (λ M. c-write-register.clauses)
-  pub c-load-registers : Settles c-load-registers.ended (λ M. c-load-registers.clauses)
-  pub c-write-port-immediate : Settles c-write-port-immediate.ended (λ M. c-write-port-immediate.clauses)
-  pub c-set-timer-irq-state : Settles c-set-timer-irq-state.ended (λ M. c-set-timer-irq-state.clauses)
-  pub c-trigger-envelope : Settles c-trigger-envelope.ended (λ M. c-trigger-envelope.clauses)
-  pub c-set-channel-mute : Settles c-set-channel-mute.ended (λ M. c-set-channel-mute.clauses)
-  pub c-set-drum-sample-override : Settles c-set-drum-sample-override.ended (λ M. c-set-drum-sample-override.clauses)
-  pub c-write-port : Settles c-write-port.ended (λ M. c-write-port.clauses)
-  pub step-word : Settles step-word.ended (λ M. step-word.clauses)
-  pub step_block : Settles step_block.ended (λ M. step_block.clauses)
+  pub ring_in : Settles ring_in.ended (λ M 𝓤. ring_in.clauses)
+  pub parts_in : Settles parts_in.ended (λ M 𝓤. parts_in.clauses)
+  pub chip_in_range : Settles chip_in_range.ended (λ M 𝓤. chip_in_range.clauses)
+  pub record_in_range : Settles record_in_range.ended (λ M 𝓤. record_in_range.clauses)
+  pub set_cpu_cycle : Settles set_cpu_cycle.ended (λ M 𝓤. set_cpu_cycle.clauses)
+  pub sync_sample_cycle : Settles sync_sample_cycle.ended (λ M 𝓤. sync_sample_cycle.clauses)
+  pub cpu_cycle : Settles cpu_cycle.ended (λ M 𝓤. cpu_cycle.clauses)
+  pub pending_write_count : Settles pending_write_count.ended (λ M 𝓤. pending_write_count.clauses)
+  pub flush_pending_writes : Settles flush_pending_writes.ended (λ M 𝓤. flush_pending_writes.clauses)
+  pub put_stamp : Settles put_stamp.ended (λ M 𝓤. put_stamp.clauses)
+  pub put_byte : Settles put_byte.ended (λ M 𝓤. put_byte.clauses)
+  pub write_port : Settles write_port.ended (λ M 𝓤. write_port.clauses)
+  pub write_register : Settles write_register.ended (λ M 𝓤. write_register.clauses)
+  pub load_registers : Settles load_registers.ended (λ M 𝓤. load_registers.clauses)
+  pub write_port_immediate : Settles write_port_immediate.ended (λ M 𝓤. write_port_immediate.clauses)
+  pub bit_1_clear : Settles bit_1_clear.ended (λ M 𝓤. bit_1_clear.clauses)
+  pub read_register : Settles read_register.ended (λ M 𝓤. read_register.clauses)
+  pub dump_registers : Settles dump_registers.ended (λ M 𝓤. dump_registers.clauses)
+  pub read_port : Settles read_port.ended (λ M 𝓤. read_port.clauses)
+  pub is_channel_muted : Settles is_channel_muted.ended (λ M 𝓤. is_channel_muted.clauses)
+  pub get_channel_outputs : Settles get_channel_outputs.ended (λ M 𝓤. get_channel_outputs.clauses)
+  pub set_channel_mute : Settles set_channel_mute.ended (λ M 𝓤. set_channel_mute.clauses)
+  pub set_drum_sample_override : Settles set_drum_sample_override.ended (λ M 𝓤. set_drum_sample_override.clauses)
+  pub set_timer_irq_state : Settles set_timer_irq_state.ended (λ M 𝓤. set_timer_irq_state.clauses)
+  pub trigger_envelope : Settles trigger_envelope.ended (λ M 𝓤. trigger_envelope.clauses)
+  pub c_set_cpu_cycle : Settles c_set_cpu_cycle.ended (λ M 𝓤. c_set_cpu_cycle.clauses)
+  pub c_sync_sample_cycle : Settles c_sync_sample_cycle.ended (λ M 𝓤. c_sync_sample_cycle.clauses)
+  pub c_settled : Settles c_settled.ended (λ M 𝓤. c_settled.clauses)
+  pub c_flush_pending_writes : Settles c_flush_pending_writes.ended (λ M 𝓤. c_flush_pending_writes.clauses)
+  pub c_write_register : Settles c_write_register.ended (λ M 𝓤. c_write_register.clauses)
+  pub c_load_registers : Settles c_load_registers.ended (λ M 𝓤. c_load_registers.clauses)
+  pub c_write_port_immediate : Settles c_write_port_immediate.ended (λ M 𝓤. c_write_port_immediate.clauses)
+  pub c_set_timer_irq_state : Settles c_set_timer_irq_state.ended (λ M 𝓤. c_set_timer_irq_state.clauses)
+  pub c_trigger_envelope : Settles c_trigger_envelope.ended (λ M 𝓤. c_trigger_envelope.clauses)
+  pub c_set_channel_mute : Settles c_set_channel_mute.ended (λ M 𝓤. c_set_channel_mute.clauses)
+  pub c_set_drum_sample_override : Settles c_set_drum_sample_override.ended (λ M 𝓤. c_set_drum_sample_override.clauses)
+  pub c_write_port : Settles c_write_port.ended (λ M 𝓤. c_write_port.clauses)
+  pub step_word : Settles step_word.ended (λ M 𝓤. step_word.clauses)
+  pub step_block : Settles step_block.ended (λ M 𝓤. step_block.clauses)

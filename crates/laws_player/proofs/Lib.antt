@@ -4,5 +4,6 @@ pub mod Standing
 pub mod Ready
 pub mod Given
 pub mod Piece
+pub mod Beginning
 pub mod Claims
 pub mod Short

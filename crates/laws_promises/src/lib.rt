@@ -1,1 +1,2 @@
 // No behaviour: what every history of calls keeps (specs/History.antt, specs/Demand.antt).
+#![tactic(auto)]

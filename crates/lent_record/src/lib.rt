@@ -1,14 +1,25 @@
 // A record that a C or Rust host owns and lends: the test of it where it lies, refusal 22. 01, "What changes shape".
-// The parts of it that a call takes out and stores back are told in proofs/RecordParts.antt.
-ghost use Rattle.std.specs.Prelude.{◌≡◌};
-ghost use Rattle.chip.specs.Range.{chip_in};
-ghost use Rattle.c_record.specs.Record.{chip_of};
+#![tactic(auto)]
+
+ghost use Rattle.std.specs.Prelude.{◌≡◌, true};
+ghost use Rattle.queue.specs.Waiting.{QueueInRange};
+ghost use Rattle.chip.specs.Range.{CoreInRange, chip_in};
+ghost use Rattle.c_record.specs.Record.{chip_of, core_of};
 
 use c_record::Record;
 
+// A record that passes is in range: the calls ask it of the parts that they are handed.
 pub fn in_range(lent: &Record) -> bool
-    ensures { result ≡ chip_in (chip_of lent.now) }
+    ensures answer { result ≡ chip_in (chip_of lent.now) }
+    ensures queue { result ≡ true → QueueInRange lent.now.queue }
+    ensures core { result ≡ true → CoreInRange (core_of lent.now.core) }
 {
+    lent_chip::arrays(
+        &lent.core.voice.registers,
+        &lent.queue.stamps,
+        &lent.queue.registers,
+        &lent.queue.values,
+    );
     chip::parts_in(
         lent.core.clocks,
         lent.core.accumulator,

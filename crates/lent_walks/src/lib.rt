@@ -1,1 +1,2 @@
-// No behaviour: the walks of calls on a lent struct that take parts of it out, have them stepped by value, and store them back.
+// Empty: the walks of calls on a lent struct stood here, and today the check makes them by itself.
+#![tactic(auto)]

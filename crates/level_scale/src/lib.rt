@@ -1,6 +1,8 @@
 // What a variant means for the levels, worked out once for a block, and where the level of a volume comes from, once for a run of words: so a
 // word picks a level with no test of the variant. No rule of its own: it gives the level of `levels` (proofs/Picking.antt). 01, "One tick,
 // one word"; 02, request 05.
+#![tactic(auto)]
+
 ghost use Rattle.std.specs.Prelude.{◌≡◌, ◌<◌};
 ghost use Rattle.level_scale.specs.Scale.{lifted, picked, scale_of, source_of, sources_of, used_of};
 
@@ -8,7 +10,7 @@ ghost use Rattle.level_scale.specs.Scale.{lifted, picked, scale_of, source_of, s
 pub const BY_ENVELOPE: u8 = 32;
 
 // `lift` is added to the level of each fixed volume but 0, and `mask` has the bits of an envelope level that are used.
-#[derive(Drop)]
+#[derive(Clone, Copy)]
 pub struct Scale {
     pub variant: u8,
     pub lift: u8,

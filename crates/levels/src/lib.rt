@@ -1,5 +1,7 @@
 // The level of a channel: its index before and behind the gate, and how loud it is. 01, "One tick, one word"; 02, request 05; the crate's
 // mixer.rs.
+#![tactic(auto)]
+
 ghost use Rattle.std.specs.Prelude.{◌≡◌, ◌<◌};
 ghost use Rattle.tables.specs.Levels.{levels};
 ghost use Rattle.levels.specs.Levels.{fixed_level, envelope_used, level_used, gated_level, loudness_of};

@@ -1,11 +1,13 @@
 // The word of three channels. 01, "One tick, one word"; the crate's mixer.rs.
+#![tactic(auto)]
+
 ghost use Rattle.std.specs.Prelude.{◌≡◌, ◌<◌};
 ghost use Rattle.tables.specs.Levels.{levels};
 ghost use Rattle.mixer.specs.Mix.{mixed};
 
 use three_channels::Channels;
 
-#[derive(Drop)]
+#[derive(Clone, Copy)]
 pub struct Mixed {
     pub word: u16,
     pub channels: Channels,

@@ -1,29 +1,34 @@
 // A list of pitches on standard input, their periods on standard output. 02, request 12.
+#![tactic(auto)]
+
 ghost use Rattle.std.specs.Prelude.{◌≡◌};
 ghost use Rattle.notes_output.specs.Printed.{printed};
 
-fn main() {
+use failures::failed;
+use std::io;
+use std::process::ExitCode;
+
+fn main(rt: HostRuntime) -> ExitCode {
     let mut input = dump_input::room();
-    let got = standard_input::read_into(&mut input);
-    if got.failed {
-        os::fail(b"notes: standard input");
-        return;
+    let got = standard_input::read_into(&mut rt.stdin(), &mut input);
+    if let Some(why) = got.failed {
+        return failed(&rt, "notes: standard input", why);
     }
-    let n = got.bytes;
-    if !tell(&input[..n]) {
-        os::fail(b"notes: standard output");
+    match tell(&rt, &input[..got.bytes]) {
+        Ok(()) => ExitCode::SUCCESS,
+        Err(why) => failed(&rt, "notes: standard output", why),
     }
 }
 
-fn tell(text: &[u8]) -> bool {
+fn tell(rt: &impl Print, text: &[u8]) -> io::Result<()> {
     let mut out = notes_output::room();
     let n = notes_output::answer(text, &mut out);
-    write_whole(text, &out[..n])
+    write_whole(rt, text, &out[..n])
 }
 
 // What is proved ends here: one write is asked for the whole output. That it is written is the kit's.
-fn write_whole(text: &[u8], bytes: &[u8]) -> bool
+fn write_whole(rt: &impl Print, text: &[u8], bytes: &[u8]) -> io::Result<()>
     requires { bytes.now ≡ printed text.now }
 {
-    io::write_all(1, bytes)
+    rt.write_all(bytes)
 }

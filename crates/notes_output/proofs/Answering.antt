@@ -4,7 +4,7 @@ use mathlib.Core.List.{List, ◌++◌}
 use Prim.Native.Nat.{ℕ, ◌+◌, ◌*◌, ◌^◌, ◌≤◌, ◌<◌}
 use native.Mathlib.Omega.{arith}
 use borrow.Author.Tests.{eq-eqb, ne_eqb, lt-ltb, le-ltb}
-use lib.ListN.{length, take, drop, length-append}
+use lib.ListN.{length, take, drop}
 use lib.Seq.{take_at}
 use Rattle.text_put.specs.Text.{overlaid, laid, place_after}
 use Rattle.text_put.proofs.Laying.{laid-over, place-over, over_none}
@@ -60,9 +60,6 @@ module _ (t out : List ℕ) (long : most ≡ length out) where
 
     buffer : after ≡ printed t ++ drop (length (printed t)) out
     buffer = let z : 0 + length (printed t) ≡ length (printed t) = omega arith in rw z at (rw all_in at a.1)
-
-    pub answer-within : r ≤ length after
-    answer-within = rw (count, buffer) (omega (arith, length-append (printed t) (drop (length (printed t)) out)))
 
     pub answer-whole : take r after ≡ printed t
     answer-whole = rw (count, buffer) (take_at (printed t) (drop (length (printed t)) out) (length (printed t)) refl)

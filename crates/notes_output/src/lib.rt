@@ -1,4 +1,6 @@
 // What is printed of a list of pitches, put into a lent buffer. 02, request 12.
+#![tactic(auto)]
+
 ghost use Rattle.std.specs.Prelude.{◌≡◌, ◌+◌, ◌*◌, ◌≤◌, length, replicate};
 ghost use Rattle.text_put.specs.Text.{overlaid};
 ghost use Rattle.notes_output.specs.Printed.{lines_from, most, period_text, printed_in};

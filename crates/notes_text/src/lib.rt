@@ -1,4 +1,6 @@
 // A list of pitches as text: a line `master=`, then lines `pitch=`, each answered by the nearest period. 02, request 12.
+#![tactic(auto)]
+
 ghost use Rattle.std.specs.Prelude.{◌≡◌, ◌≤◌, min, length};
 ghost use Rattle.notes_text.specs.Checked.{asked_in, master_line_no, note_at, notes_from, refused_at};
 
@@ -9,7 +11,7 @@ const WIDEST: u64 = 4_294_967_295;
 
 // `no` 0 is accepted: `line` is 0, `notes` lines `pitch=` follow, and the first stands at `body`.
 // Any other number is the refusal, at `line`, and the rest is 0.
-#[derive(Drop)]
+#[derive(Clone, Copy)]
 pub struct Asked {
     pub no: u8,
     pub line: u32,
@@ -19,7 +21,7 @@ pub struct Asked {
 }
 
 // One line `pitch=`: its number, the period that answers it (0 where it is refused), and the place of the next line.
-#[derive(Drop)]
+#[derive(Clone, Copy)]
 pub struct Note {
     pub no: u8,
     pub period: u16,
@@ -27,7 +29,7 @@ pub struct Note {
 }
 
 // How many notes there are, or the first refusal and its line.
-#[derive(Drop)]
+#[derive(Clone, Copy)]
 pub struct NotesRead {
     pub no: u8,
     pub line: u32,

@@ -1,4 +1,6 @@
 // The lines around the words: a refusal, the number of words, the writes that are left. 01, "The dump player"; 02, request 01.
+#![tactic(auto)]
+
 ghost use Rattle.std.specs.Prelude.{◌≡◌, ◌++◌, ◌≤◌, length};
 ghost use Rattle.text_put.specs.Text.{laid, number_text, place_after};
 ghost use Rattle.output_lines.specs.Lines.{left_text, refusal_text, total_text};

@@ -1,4 +1,6 @@
 // Nearest period for a wanted note: the period whose tone is nearest to a pitch, and a check of proposed periods. 02, request 12.
+#![tactic(auto)]
+
 ghost use Rattle.std.specs.Prelude.{true, ◌≡◌, length};
 ghost use Rattle.laws.specs.All.{every};
 ghost use Rattle.pitch.specs.Pitch.{are_nearest, each_nearest, master_in, nearest_period, nearest_to, pitch_in, unanswered};
@@ -10,14 +12,14 @@ pub const LOWEST_MASTER: u32 = 8;
 pub const HIGHEST_MASTER: u32 = 1_073_741_823;
 
 // `no` 0 is accepted. Any other number is the refusal, and the period is 0.
-#[derive(Drop)]
+#[derive(Clone, Copy)]
 pub struct Found {
     pub no: u8,
     pub period: u16,
 }
 
 // `no` 0 is accepted. Any other number is the refusal, and `yes` is false.
-#[derive(Drop)]
+#[derive(Clone, Copy)]
 pub struct Checked {
     pub no: u8,
     pub yes: bool,

@@ -1,40 +1,38 @@
 // The player of captures: a capture on standard input, its words on standard output. 02, request 01.
-ghost use Rattle.std.specs.Prelude.{false, ◌≡◌, ◌≤◌, length};
+#![tactic(auto)]
+
+ghost use Rattle.std.specs.Prelude.{◌≡◌, ◌≤◌, IfOk, length};
 ghost use Rattle.capture_played.specs.Whole.{printed};
 ghost use Rattle.playcapture.specs.Written.{NextBytes};
 
-// How many bytes were written, and whether the last write failed.
-#[derive(Drop)]
-struct Moved {
-    bytes: usize,
-    failed: bool,
-}
+use failures::failed;
+use std::io;
+use std::process::ExitCode;
 
-fn main() {
+fn main(rt: HostRuntime) -> ExitCode {
     let mut input = dump_input::room();
-    let got = standard_input::read_into(&mut input);
-    if got.failed {
-        os::fail(b"playcapture: standard input");
-        return;
+    let got = standard_input::read_into(&mut rt.stdin(), &mut input);
+    if let Some(why) = got.failed {
+        return failed(&rt, "playcapture: standard input", why);
     }
-    let n = got.bytes;
-    let written = play(&input[..n]);
-    if written.failed {
-        os::fail(b"playcapture: standard output");
+    match play(&rt, &input[..got.bytes]) {
+        Ok(_) => ExitCode::SUCCESS,
+        Err(why) => failed(&rt, "playcapture: standard output", why),
     }
 }
 
-fn play(text: &[u8]) -> Moved
-    ensures { result.failed ≡ false → result.bytes ≡ length (printed text.now) }
+// How many bytes were written.
+fn play(rt: &impl Print, text: &[u8]) -> io::Result<usize>
+    ensures { IfOk result (λ bytes. bytes ≡ length (printed text.now)) }
 {
-    let mut out = io::large_buffer();
-    hand_out(text, &mut out)
+    let mut out = [0u8; 65536];
+    hand_out(rt, text, &mut out)
 }
 
 // Piece after piece, until the empty one or a write that fails.
-fn hand_out(text: &[u8], out: &mut [u8]) -> Moved
+fn hand_out(rt: &impl Print, text: &[u8], out: &mut [u8]) -> io::Result<usize>
     requires { 32 ≤ length out.old }
-    ensures { result.failed ≡ false → result.bytes ≡ length (printed text.now) }
+    ensures { IfOk result (λ bytes. bytes ≡ length (printed text.now)) }
 {
     let mut player = capture_steps::start(text);
     let mut bytes = 0;
@@ -42,25 +40,17 @@ fn hand_out(text: &[u8], out: &mut [u8]) -> Moved
         let piece = capture_player::next_piece(player, text, out);
         let n = piece.length;
         if n == 0 {
-            return Moved {
-                bytes,
-                failed: false,
-            };
+            return Ok(bytes);
         }
-        if !write_next(text, bytes, &out[..n]) {
-            return Moved {
-                bytes,
-                failed: true,
-            };
-        }
+        write_next(rt, text, bytes, &out[..n])?;
         bytes += n;
         player = piece.player;
     }
 }
 
 // What is proved ends here: each write is asked for the output's next bytes. That they are written is the kit's.
-fn write_next(text: &[u8], place: usize, bytes: &[u8]) -> bool
+fn write_next(rt: &impl Print, text: &[u8], place: usize, bytes: &[u8]) -> io::Result<()>
     requires { NextBytes text.now place bytes.now }
 {
-    io::write_all(1, bytes)
+    rt.write_all(bytes)
 }

@@ -1,4 +1,6 @@
 // The edges that the tones start with. 01, "Power-on and reset"; the crate's generators.rs.
+#![tactic(auto)]
+
 ghost use Rattle.std.specs.Prelude.{◌≡◌, ◌*◌, ◌%◌, ◌^◌};
 ghost use Rattle.power_on.specs.Seed.{seeded, power_on_edges};
 

@@ -1,4 +1,6 @@
 // What is due of the waiting writes, applied. 01, "One tick, one word".
+#![tactic(auto)]
+
 ghost use Rattle.queue.specs.Waiting.{ring, QueueInRange};
 ghost use Rattle.queue_drain.specs.Drain.{Drains};
 ghost use Rattle.queue_drain.specs.Due.{drained_with, Stores};
@@ -7,7 +9,7 @@ use registers::{REGISTERS, Voice};
 use settling::Settings;
 
 // What a drain leaves: the ring's slots are as they were.
-#[derive(Drop)]
+#[derive(Clone, Copy)]
 pub struct Drained {
     pub voice: Voice,
     pub head: usize,
@@ -15,7 +17,7 @@ pub struct Drained {
 }
 
 // What the due writes leave of a voice, its bytes and settings; and the ring without them.
-#[derive(Drop)]
+#[derive(Clone, Copy)]
 struct Due {
     bytes: [u8; 14],
     settings: Settings,
@@ -24,7 +26,7 @@ struct Due {
 }
 
 // The stored bytes after the due writes, and a mark for each register written; and the ring without them.
-#[derive(Drop)]
+#[derive(Clone, Copy)]
 struct Stored {
     bytes: [u8; 14],
     marks: u32,

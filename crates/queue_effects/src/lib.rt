@@ -1,4 +1,6 @@
 // What applied writes changed, counted where they stood in the ring: applying them wrote no slot. 02, request 03.
+#![tactic(auto)]
+
 ghost use Rattle.std.specs.Prelude.{◌≡◌, ◌<◌, ◌≤◌};
 ghost use Rattle.write_effects.specs.Effects.{effects_of};
 ghost use Rattle.queue_effects.specs.Slots.{writes_at};

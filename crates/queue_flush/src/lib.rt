@@ -1,4 +1,6 @@
 // All waiting writes applied. 01, "Registers and ports".
+#![tactic(auto)]
+
 ghost use Rattle.std.specs.Prelude.{◌≡◌};
 ghost use Rattle.queue.specs.Waiting.{QueueInRange, ring, waiting};
 ghost use Rattle.queue_flush.specs.Applied.{apply_all};

@@ -1,4 +1,6 @@
 // One slot of a ring of waiting writes, written where the ring lies. 01, "Registers and ports".
+#![tactic(auto)]
+
 ghost use Rattle.std.specs.Prelude.{◌≡◌};
 ghost use Rattle.queue_slot.specs.Slot.{put_at};
 

@@ -1,4 +1,6 @@
 // Numbers a call can answer. 01's table, with 02's later numbers; specs/Numbers.antt has the same numbers for the definitions.
+#![tactic(auto)]
+
 pub const ACCEPTED: u8 = 0;
 
 pub const MASTER_TOO_HIGH: u8 = 1;

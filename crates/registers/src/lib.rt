@@ -1,4 +1,6 @@
 // What a register write does. 01, "Registers and ports"; `apply_register` of the crate's chip.rs.
+#![tactic(auto)]
+
 ghost use Rattle.std.specs.Prelude.{◌≡◌, ◌+◌, ◌*◌, ◌<◌};
 ghost use Rattle.registers.specs.Registers.{masked, pair_at, tone_period_set, noise_period_set, gates_set, envelope_period_set, shape_set, voice_set, apply_register};
 
@@ -7,7 +9,7 @@ use generators::Generators;
 
 // What a register write reads and changes: the stored bytes, the generators, R7's gates and the IRQ flag.
 #[repr(C)]
-#[derive(Drop)]
+#[derive(Clone, Copy)]
 pub struct Voice {
     pub registers: [u8; 14],
     pub generators: Generators,

@@ -4,7 +4,7 @@ use crate::said::{Rest, Said};
 use answers::{Answered, Applied, Blocked, Sampled, Written};
 use chip::Chip;
 
-#[derive(Drop)]
+#[derive(Clone, Copy)]
 pub struct After {
     pub chip: Chip,
     pub said: Said,

@@ -21,10 +21,8 @@ pub fn put_words(out: &mut [u8], at: usize, count: u64, words: &[u16]) -> usize 
 
 fn put_all(out: &mut [u8], at: usize, words: &[u16]) -> usize {
     let mut place = at;
-    let mut i = 0;
-    while i < words.len() {
-        place = put_word(out, place, words[i]);
-        i += 1;
+    for word in words {
+        place = put_word(out, place, *word);
     }
     place
 }
@@ -46,10 +44,8 @@ fn put_ends(out: &mut [u8], at: usize, words: &[u16]) -> usize {
 // 32-bit FNV-1a of the words' bytes, the low byte of each first.
 fn check_of(words: &[u16]) -> u64 {
     let mut sum: u64 = 2_166_136_261;
-    let mut i = 0;
-    while i < words.len() {
-        sum = with_word(sum, words[i]);
-        i += 1;
+    for word in words {
+        sum = with_word(sum, *word);
     }
     sum
 }

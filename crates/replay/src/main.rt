@@ -2,6 +2,8 @@
 // and what is printed are those of oracle/README.md, so that the crate can be run beside it.
 //
 // `stdin` and `stdout` hold a script and what the crate answers to it; the head of `stdin` says how they are made.
+#![tactic(auto)]
+
 mod after;
 mod block;
 mod desk;
@@ -10,6 +12,8 @@ mod said;
 mod script;
 mod value;
 
-fn main() {
-    script::play();
+use std::io;
+
+fn main(rt: HostRuntime) -> io::Result<()> {
+    script::play(&rt, &mut rt.stdin())
 }

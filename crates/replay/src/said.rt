@@ -5,7 +5,7 @@ use queue::Queue;
 use script_print::{put_form, put_hex_bytes};
 use script_state::of_float;
 
-#[derive(Drop)]
+#[derive(Clone, Copy)]
 pub struct Said {
     pub no: u8,
     pub rest: Rest,
@@ -13,7 +13,7 @@ pub struct Said {
     pub bytes: [u8; 16],
 }
 
-#[derive(Drop)]
+#[derive(Clone, Copy)]
 pub enum Rest {
     Nothing,
     One(u64),

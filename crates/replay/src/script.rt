@@ -6,11 +6,13 @@ use script_calls::{Call, call_of};
 use script_lines::Span;
 use script_print::put_form;
 use script_state::put_state;
+use std::io;
+use std::io::Read;
 
 // More than an answer and a state take.
 const ROOM: usize = 2048;
 
-#[derive(Drop)]
+#[derive(Clone, Copy)]
 struct Turn {
     chip: Chip,
     // calls go to a chip that is lent
@@ -21,20 +23,19 @@ struct Turn {
     more: bool,
 }
 
-// A proved loop has to end, and nothing says that the input does: the turns are counted down from a number that no run uses up.
-pub fn play() {
+// A proved loop has to end, and nothing says that the input does: there are as many turns as no run uses up.
+pub fn play(rt: &impl Print, source: &mut impl Read) -> io::Result<()> {
     let mut input = [0u8; 65536];
     let mut out = [0u8; 65536];
     let mut words = [0u16; 65537];
     let mut now = begun();
-    let mut turns = u64::MAX;
-    while turns > 0 {
-        now = turned(now, &mut input, &mut out, &mut words);
+    for _ in 0..u64::MAX {
+        now = turned(rt, source, now, &mut input, &mut out, &mut words)?;
         if !now.more {
-            return;
+            break;
         }
-        turns -= 1;
     }
+    Ok(())
 }
 
 fn begun() -> Turn {
@@ -51,18 +52,20 @@ fn begun() -> Turn {
 
 // An array's length stands in its type, so the loop above has nothing to show of it.
 fn turned(
+    rt: &impl Print,
+    source: &mut impl Read,
     now: Turn,
     input: &mut [u8; 65536],
     out: &mut [u8; 65536],
     words: &mut [u16; 65537],
-) -> Turn {
+) -> io::Result<Turn> {
     let span = script_lines::line_in(input, now.span);
     if span.whole {
         let call = call_in(input, span.start, span.end);
-        return played(now.past(span), call, out, words);
+        return played(rt, now.past(span), call, out, words);
     }
-    flush(out, now.at);
-    now.read(script_lines::read_more(input, span))
+    flush(rt, out, now.at)?;
+    Ok(now.read(script_lines::read_more(source, input, span)))
 }
 
 fn call_in(input: &[u8], start: usize, end: usize) -> Call {
@@ -107,25 +110,31 @@ impl Turn {
 }
 
 // A comment prints nothing, a call its answer and the state, anything else `bad`.
-fn played(now: Turn, call: Call, out: &mut [u8], words: &mut [u16]) -> Turn {
+fn played(
+    rt: &impl Print,
+    now: Turn,
+    call: Call,
+    out: &mut [u8],
+    words: &mut [u16],
+) -> io::Result<Turn> {
     match call {
-        Call::Comment => now,
+        Call::Comment => Ok(now),
         Call::Bad => {
-            put_bad(out, now.at);
-            now.stopped()
+            put_bad(rt, out, now.at)?;
+            Ok(now.stopped())
         }
         _ => {
             let after = desk::called(now.chip, now.lent, call, words);
-            let at = put_line(out, now.at, after.chip, after.said, words);
-            now.called(after.chip, call, at)
+            let at = put_line(rt, out, now.at, after.chip, after.said, words)?;
+            Ok(now.called(after.chip, call, at))
         }
     }
 }
 
-fn put_bad(out: &mut [u8], at: usize) {
-    let room = with_room(out, at);
+fn put_bad(rt: &impl Print, out: &mut [u8], at: usize) -> io::Result<()> {
+    let room = with_room(rt, out, at)?;
     let end = put_form(out, room, b"bad\n", &[]);
-    flush(out, end);
+    flush(rt, out, end)
 }
 
 // From `lent` on calls go to a chip by value, or to one that is lent.
@@ -136,26 +145,34 @@ fn lending(lent: bool, call: Call) -> bool {
     }
 }
 
-fn put_line(out: &mut [u8], at: usize, chip: Chip, said: Said, words: &[u16]) -> usize {
-    let room = with_room(out, at);
+fn put_line(
+    rt: &impl Print,
+    out: &mut [u8],
+    at: usize,
+    chip: Chip,
+    said: Said,
+    words: &[u16],
+) -> io::Result<usize> {
+    let room = with_room(rt, out, at)?;
     let answered = put_said(out, room, said, words);
-    put_state(out, answered, chip)
+    Ok(put_state(out, answered, chip))
 }
 
 // A buffer that is nearly full is written out.
-fn with_room(out: &[u8], at: usize) -> usize {
+fn with_room(rt: &impl Print, out: &[u8], at: usize) -> io::Result<usize> {
     if at < out.len() {
         if out.len() - at > ROOM {
-            return at;
+            return Ok(at);
         }
     }
-    flush(out, at);
-    0
+    flush(rt, out, at)?;
+    Ok(0)
 }
 
 // What stands before the place is written out.
-fn flush(out: &[u8], at: usize) {
+fn flush(rt: &impl Print, out: &[u8], at: usize) -> io::Result<()> {
     if at <= out.len() {
-        io::write_all(1, &out[0..at]);
+        return rt.write_all(&out[0..at]);
     }
+    Ok(())
 }

@@ -1,4 +1,6 @@
 // A script's line as a call, with what the call takes. oracle/README.md, "A script". Nothing here knows a chip.
+#![tactic(auto)]
+
 mod lines;
 mod narrow;
 mod settings;
@@ -7,7 +9,7 @@ pub use lines::call_of;
 pub use narrow::sixteen;
 pub use settings::Setting;
 
-#[derive(Drop)]
+#[derive(Clone, Copy)]
 pub enum Call {
     New(u32, u32),
     Make(u32, u32, u8),
@@ -27,7 +29,7 @@ pub enum Call {
 }
 
 // A call that answers its number alone.
-#[derive(Drop)]
+#[derive(Clone, Copy)]
 pub enum Change {
     Reset,
     Port(u8, u8),
@@ -42,7 +44,7 @@ pub enum Change {
 }
 
 // A call that applies register writes, and answers what they changed.
-#[derive(Drop)]
+#[derive(Clone, Copy)]
 pub enum Apply {
     Write(u8, u8),
     PortNow(u8, u8),
@@ -52,7 +54,7 @@ pub enum Apply {
 }
 
 // A call that only reads.
-#[derive(Drop)]
+#[derive(Clone, Copy)]
 pub enum Look {
     Register(u8),
     Registers,

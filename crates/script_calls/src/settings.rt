@@ -3,7 +3,7 @@ use crate::narrow;
 use script_words::{NOWHERE, Number, decimal, place_of};
 
 // A tone's channel is 0, 1 or 2.
-#[derive(Drop)]
+#[derive(Clone, Copy)]
 pub enum Setting {
     Master(u32),
     Rate(u32),

@@ -1,8 +1,11 @@
-// Lines of standard input, one after the other, in a lent buffer. Nothing here knows what a line says.
+// Lines of an input, one after the other, in a lent buffer. Nothing here knows what a line says.
+#![tactic(auto)]
+
 use script_words::seek;
+use std::io::Read;
 
 // The buffer's bytes up to `filled` are input; the line that is looked at stands from `start` up to `end`.
-#[derive(Drop)]
+#[derive(Clone, Copy)]
 pub struct Span {
     pub start: usize,
     pub end: usize,
@@ -51,9 +54,9 @@ pub fn past(span: Span) -> Span {
 }
 
 // Reads on where no whole line is left. A last line with no LF gets one; one as long as the buffer becomes an empty line.
-pub fn read_more(input: &mut [u8], span: Span) -> Span {
+pub fn read_more<R: Read>(source: &mut R, input: &mut [u8], span: Span) -> Span {
     let kept = forward(input, span.start, span.filled);
-    let filled = filled_from(input, kept);
+    let filled = filled_from(source, input, kept);
     let mut next = nothing_read();
     if filled > kept {
         next.filled = filled;
@@ -79,14 +82,16 @@ fn ended(input: &mut [u8], kept: usize) -> usize {
     0
 }
 
-// How many bytes there are, with what a read puts after the first `kept`; 0 where there is no room for more.
-fn filled_from(input: &mut [u8], kept: usize) -> usize {
+// How many bytes there are, with what a read puts after the first `kept`; 0 where there is no room for more. A read that fails ends the
+// input.
+fn filled_from<R: Read>(source: &mut R, input: &mut [u8], kept: usize) -> usize {
     if kept >= input.len() {
         return 0;
     }
-    let got = libc::read(0, &mut input[kept..]);
-    let more = io::count(got, &input[kept..]);
-    kept + more
+    match source.read(&mut input[kept..]) {
+        Ok(more) => kept + more,
+        Err(_) => kept,
+    }
 }
 
 // Moves the bytes from `used` up to `filled` to the start, and answers how many there are.

@@ -1,4 +1,6 @@
 // A line of a script's output: a form whose marks are filled by numbers. Nothing here knows a chip.
+#![tactic(auto)]
+
 use text_put::{put_bytes, put_decimal, put_hex};
 
 // Where a drum is no f32, which has 32 bits.
@@ -9,11 +11,9 @@ pub const OFF: u64 = 0x1_0000_0000;
 pub fn put_form(out: &mut [u8], at: usize, form: &[u8], numbers: &[u64]) -> usize {
     let mut place = at;
     let mut k = 0;
-    let mut i = 0;
-    while i < form.len() {
-        place = put_filled(out, place, form[i], number_at(numbers, k));
-        k = next_number(numbers, k, form[i]);
-        i += 1;
+    for byte in form {
+        place = put_filled(out, place, *byte, number_at(numbers, k));
+        k = next_number(numbers, k, *byte);
     }
     place
 }
@@ -70,10 +70,8 @@ fn put_signed(out: &mut [u8], at: usize, n: u64) -> usize {
 // Two hex digits to a byte.
 pub fn put_hex_bytes(out: &mut [u8], at: usize, bytes: &[u8]) -> usize {
     let mut place = at;
-    let mut i = 0;
-    while i < bytes.len() {
-        place = put_hex_byte(out, place, bytes[i]);
-        i += 1;
+    for byte in bytes {
+        place = put_hex_byte(out, place, *byte);
     }
     place
 }

@@ -1,4 +1,6 @@
 // A chip's record as a script sees it: its state on one line, and one field of it set to a value.
+#![tactic(auto)]
+
 mod line;
 mod numbers;
 mod setting;

@@ -1,5 +1,5 @@
 // Words as numbers: decimal with no needless leading zero, or lower-case hex.
-#[derive(Drop)]
+#[derive(Clone, Copy)]
 pub enum Number {
     Is(u64),
     // of another form, or too large

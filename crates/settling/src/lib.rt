@@ -1,4 +1,6 @@
 // What many writes set, set once after the last. 01, "Registers and ports".
+#![tactic(auto)]
+
 ghost use Rattle.std.specs.Prelude.{cond, ◌≡◌, ◌+◌, ◌*◌, ◌^◌, ◌<◌};
 ghost use Rattle.stored_bytes.specs.Marks.{unwritten};
 ghost use Rattle.settling.specs.Settling.{settings_of, pitch_after, gates_after, envelope_period_after, shape_after, settled_of, generators_with, with_settings};
@@ -11,14 +13,14 @@ use registers::Voice;
 use tone::Tone;
 
 // What register writes set of a tone.
-#[derive(Drop)]
+#[derive(Clone, Copy)]
 pub struct Pitch {
     pub period: u16,
     pub pending: bool,
 }
 
 // What register writes set beside the stored bytes. All else of a voice stays, so it need not leave the machine's registers.
-#[derive(Drop)]
+#[derive(Clone, Copy)]
 pub struct Settings {
     pub a: Pitch,
     pub b: Pitch,

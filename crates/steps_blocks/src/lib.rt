@@ -1,5 +1,7 @@
 // A block of words, on the parts of a record that it reads and changes: `ok` is the test of the record. 01, "One tick,
 // one word"; 02, request 03.
+#![tactic(auto)]
+
 ghost use Rattle.std.specs.Prelude.{◌≡◌, true, length};
 ghost use Rattle.queue.specs.Waiting.{ring};
 ghost use Rattle.clocking_block.specs.Block.{chip_with};
@@ -10,7 +12,7 @@ use answers::Played;
 use chip::Core;
 
 // What a block changes, to store, and the call's answer; the ring's slots are as they were.
-#[derive(Drop)]
+#[derive(Clone, Copy)]
 pub struct BlockStep {
     pub core: Core,
     pub head: usize,

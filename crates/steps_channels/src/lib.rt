@@ -1,5 +1,7 @@
 // What the calls on mutes, drums and outputs change and answer of a lent record's channels, stepped by value: `ok` is the test of the record.
 // 01, "Numbers a call can answer" and "One tick, one word".
+#![tactic(auto)]
+
 ghost use Rattle.std.specs.Prelude.{◌≡◌};
 ghost use Rattle.steps_channels.specs.ChannelSteps.{channel_number, drums_set, mutes_set, mute_said, outputs_said};
 
@@ -7,7 +9,7 @@ use answers::{Flag, Outputs};
 use channel::Drum;
 
 // The three mutes to store, and the call's number.
-#[derive(Drop)]
+#[derive(Clone, Copy)]
 pub struct Muted {
     pub a: bool,
     pub b: bool,
@@ -16,7 +18,7 @@ pub struct Muted {
 }
 
 // The three drums to store, and the call's number.
-#[derive(Drop)]
+#[derive(Clone, Copy)]
 pub struct Drummed {
     pub a: Drum,
     pub b: Drum,

@@ -1,18 +1,20 @@
 // What the calls on stamps change of a lent record, stepped by value: `ok` is the test of the record. 01, "Registers and ports".
+#![tactic(auto)]
+
 ghost use Rattle.std.specs.Prelude.{◌≡◌};
 ghost use Rattle.steps_cycles.specs.CycleSteps.{both_set, count_said, cycle_said, stamp_set};
 
 use answers::{Count, Cycle};
 
 // The stamp to store, and the call's number.
-#[derive(Drop)]
+#[derive(Clone, Copy)]
 pub struct Stamped {
     pub stamp: u64,
     pub no: u8,
 }
 
 // The stamp and the next word's start to store, and the call's number.
-#[derive(Drop)]
+#[derive(Clone, Copy)]
 pub struct Synced {
     pub stamp: u64,
     pub start: u64,

@@ -1,5 +1,7 @@
 // What the IRQ flag's call and the envelope's trigger change of a lent record, stepped by value: `ok` is the test of the record. 01,
 // "Registers and ports".
+#![tactic(auto)]
+
 ghost use Rattle.std.specs.Prelude.{◌≡◌};
 ghost use Rattle.steps_effects.specs.EffectSteps.{flag_set, trigger_set};
 
@@ -7,14 +9,14 @@ use envelope::Envelope;
 use generators::Generators;
 
 // The envelope to store, and the call's number.
-#[derive(Drop)]
+#[derive(Clone, Copy)]
 pub struct Triggered {
     pub envelope: Envelope,
     pub no: u8,
 }
 
 // The generators and the IRQ flag to store, and the call's number.
-#[derive(Drop)]
+#[derive(Clone, Copy)]
 pub struct Flagged {
     pub generators: Generators,
     pub irq: bool,

@@ -1,4 +1,6 @@
 // What a write by a port that may wait changes of a lent record, stepped by value: `ok` is the test of the record. 01, "Registers and ports".
+#![tactic(auto)]
+
 ghost use Rattle.std.specs.Prelude.{◌≡◌};
 ghost use Rattle.steps_ports.specs.PortSteps.{port_queued};
 
@@ -6,7 +8,7 @@ ghost use Rattle.steps_ports.specs.PortSteps.{port_queued};
 pub const NO_SLOT: usize = 256;
 
 // The selection and the count to store, the slot to write and what to write there, and the call's number.
-#[derive(Drop)]
+#[derive(Clone, Copy)]
 pub struct PortQueued {
     pub selected: u8,
     pub count: usize,

@@ -1,5 +1,7 @@
 // A flush, on the parts of a record that it reads and changes: `ok` is the test of the record. 01, "Registers and ports"; 02,
 // request 03.
+#![tactic(auto)]
+
 ghost use Rattle.std.specs.Prelude.{◌≡◌, true};
 ghost use Rattle.queue.specs.Waiting.{QueueInRange, ring};
 ghost use Rattle.steps_queue.specs.QueueSteps.{flush_step};
@@ -8,7 +10,7 @@ use answers::Counts;
 use registers::Voice;
 
 // The voice, the ring's place and its count to store, and the call's answer; the ring's slots are as they were.
-#[derive(Drop)]
+#[derive(Clone, Copy)]
 pub struct FlushStep {
     pub voice: Voice,
     pub head: usize,

@@ -1,4 +1,6 @@
 // What the calls that read registers answer of a lent record's parts: `ok` is the test of the record. 01, "Registers and ports".
+#![tactic(auto)]
+
 ghost use Rattle.std.specs.Prelude.{◌≡◌};
 ghost use Rattle.steps_registers.specs.RegisterSteps.{bit1_clear, dump_said, padded, port_said, register_said};
 

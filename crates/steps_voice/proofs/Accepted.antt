@@ -11,7 +11,7 @@ use Rattle.registers.specs.declared.Voice.{Voice}
 use Rattle.registers.specs.Registers.{apply_register}
 use Rattle.registers.specs.Writes.{loaded, load_writes, registers_from}
 use Rattle.write_effects.specs.Effects.{changed_by, changes_in, differences, restarted_by, restarts_in}
-use Rattle.write_effects.proofs.Laws.{bytes_left, each-once}
+use Rattle.write_effects.proofs.Laws.{bytes_left_lem, each-once}
 use Rattle.answers.specs.declared.Wrote.{Wrote}
 use Rattle.answers.specs.Reports.{counts, wrote}
 use Rattle.steps_registers.specs.RegisterSteps.{bit1_clear}
@@ -34,7 +34,7 @@ voiced-no ok register value voice n a = on-no ok ok _ _ _ refl n (λ i. record {
 -- no register is written twice, and one of them is 13
 load-changes : (bytes : List ℕ) (voice : Voice) → differences 14 0 voice.registers (loaded bytes voice).registers ≡ changes_in (load_writes bytes) voice.registers
 load-changes bytes voice =
-    ap (differences 14 0 voice.registers) (bytes_left (load_writes bytes) voice) ∙ sym (each-once (λ register. get_or bytes register 0) 14 0 voice.registers (omega arith))
+    ap (differences 14 0 voice.registers) (bytes_left_lem (load_writes bytes) voice) ∙ sym (each-once (λ register. get_or bytes register 0) 14 0 voice.registers (omega arith))
 
 load-restarts : (bytes : List ℕ) → 1 ≡ restarts_in (load_writes bytes)
 unfolding restarts_in registers_from

@@ -1,5 +1,7 @@
 // What the register writes change of a lent record, stepped by value, and what they report: `ok` is the test of the record. 01, "Registers
 // and ports"; 02, request 03.
+#![tactic(auto)]
+
 ghost use Rattle.std.specs.Prelude.{false, ◌≡◌};
 ghost use Rattle.registers.specs.Registers.{apply_register};
 ghost use Rattle.refusals.specs.Numbers.{accepted};
@@ -11,20 +13,20 @@ use answers::{Counts, Wrote};
 use registers::Voice;
 
 // The voice to store, and the call's answer.
-#[derive(Drop)]
+#[derive(Clone, Copy)]
 pub struct Voiced {
     pub voice: Voice,
     pub answer: Wrote,
 }
 
-#[derive(Drop)]
+#[derive(Clone, Copy)]
 pub struct Loaded {
     pub voice: Voice,
     pub answer: Counts,
 }
 
 // The voice and the selection to store, and the call's answer.
-#[derive(Drop)]
+#[derive(Clone, Copy)]
 pub struct PortWritten {
     pub voice: Voice,
     pub selected: u8,

@@ -1,5 +1,7 @@
 // One word by itself, on the parts of a record that it reads and changes: `ok` is the test of the record. 01, "One tick, one
 // word"; 02, request 03.
+#![tactic(auto)]
+
 ghost use Rattle.std.specs.Prelude.{◌≡◌, true};
 ghost use Rattle.queue.specs.Waiting.{ring};
 ghost use Rattle.steps_words.specs.WordSteps.{chip_at, Playable, unplayed, word_step};
@@ -10,7 +12,7 @@ use registers::Voice;
 use three_channels::Channels;
 
 // What a word changes, to store, and the call's answer; the ring's slots are as they were.
-#[derive(Drop)]
+#[derive(Clone, Copy)]
 pub struct WordStep {
     pub voice: Voice,
     pub channels: Channels,

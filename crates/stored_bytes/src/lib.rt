@@ -1,4 +1,6 @@
 // The stored bytes with one more, and which registers were written. 01, "Registers and ports": "the byte is masked .. and stored".
+#![tactic(auto)]
+
 ghost use Rattle.std.specs.Prelude.{cond, ◌≡◌, ◌<◌, eqb, set};
 ghost use Rattle.stored_bytes.specs.Marks.{marked};
 

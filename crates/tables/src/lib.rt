@@ -1,4 +1,6 @@
 // The small tables of tables.rs, each behind a lookup that is promised by its rule in 01. (The envelope's entries are worked out, by `envelope_shapes`; a register's mask is, from its width.)
+#![tactic(auto)]
+
 ghost use Rattle.std.specs.Prelude.{◌≡◌, ◌%◌, ◌<◌};
 ghost use Rattle.tables.specs.Masks.{register_mask, gate_mask};
 ghost use Rattle.tables.specs.Levels.{levels, level_of};

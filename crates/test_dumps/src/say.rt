@@ -1,33 +1,34 @@
 // One line for each text: `no line`, and for an accepted one its clocks and its sizes after them.
 use capture::Captured;
 use dump::Verdict;
+use std::io;
 
-#[derive(Drop)]
+#[derive(Clone, Copy)]
 struct Pair {
     first: u64,
     second: u64,
 }
 
 // ` master rate words frames`
-pub fn verdict(v: Verdict) {
+pub fn verdict(rt: &impl Print, v: Verdict) -> io::Result<()> {
     let sizes = Pair {
         first: v.words as u64,
         second: v.frames as u64,
     };
-    line(v.no, v.line, clocks(v.master, v.rate), sizes);
+    line(rt, v.no, v.line, clocks(v.master, v.rate), sizes)
 }
 
 // ` master rate writes words`
-pub fn captured(v: Captured) {
+pub fn captured(rt: &impl Print, v: Captured) -> io::Result<()> {
     let sizes = Pair {
         first: v.writes as u64,
         second: v.words as u64,
     };
-    line(v.no, v.line, clocks(v.master, v.rate), sizes);
+    line(rt, v.no, v.line, clocks(v.master, v.rate), sizes)
 }
 
-pub fn bad() {
-    io::write_all(1, b"bad\n");
+pub fn bad(rt: &impl Print) -> io::Result<()> {
+    rt.write_all(b"bad\n")
 }
 
 fn clocks(master: u32, rate: u32) -> Pair {
@@ -37,11 +38,11 @@ fn clocks(master: u32, rate: u32) -> Pair {
     }
 }
 
-fn line(no: u8, line: u32, clocks: Pair, sizes: Pair) {
+fn line(rt: &impl Print, no: u8, line: u32, clocks: Pair, sizes: Pair) -> io::Result<()> {
     let mut bytes = [0u8; 64];
     let out: &mut [u8] = &mut bytes;
     let length = put_line(out, no, line, clocks, sizes);
-    write(&bytes, length);
+    write(rt, &bytes, length)
 }
 
 fn put_line(out: &mut [u8], no: u8, line: u32, clocks: Pair, sizes: Pair) -> usize {
@@ -58,8 +59,9 @@ fn put_pair(out: &mut [u8], at: usize, first: u64, second: u64, end: u8) -> usiz
     text_put::put_number(out, next, second, end)
 }
 
-fn write(bytes: &[u8], length: usize) {
+fn write(rt: &impl Print, bytes: &[u8], length: usize) -> io::Result<()> {
     if length <= bytes.len() {
-        io::write_all(1, &bytes[..length]);
+        return rt.write_all(&bytes[..length]);
     }
+    Ok(())
 }

@@ -3,35 +3,37 @@ use crate::say::form;
 use crate::{say, shown};
 use channel::{Channel, Drum};
 use mixer::Mixed;
+use std::io;
 use three_channels::Channels;
 
-pub fn go(kind: u64, steps: u64) {
+pub fn go(rt: &impl Print, kind: u64, steps: u64) -> io::Result<()> {
     let mut s = Channels::new();
     let mut i: u64 = 0;
     while i < steps {
-        s = step(kind, s, i);
+        s = step(rt, kind, s, i)?;
         i += 1;
     }
+    Ok(())
 }
 
-fn step(kind: u64, s: Channels, i: u64) -> Channels {
+fn step(rt: &impl Print, kind: u64, s: Channels, i: u64) -> io::Result<Channels> {
     match kind {
-        form::CHANNEL => channel(s, i),
-        _ => word(mixed(words_after(s, i), i), i),
+        form::CHANNEL => channel(rt, s, i),
+        _ => word(rt, mixed(words_after(s, i), i), i),
     }
 }
 
 // Channel A, what is heard of it at level 31, and the channel after it.
-fn channel(s: Channels, i: u64) -> Channels {
+fn channel(rt: &impl Print, s: Channels, i: u64) -> io::Result<Channels> {
     let mut next = s;
     let c = channel_after(s.a, i);
-    say::text(form::CHANNEL_STEP, i, 0, 0, 0);
-    shown::channel(c);
+    say::text(rt, form::CHANNEL_STEP, i, 0, 0, 0)?;
+    shown::channel(rt, c)?;
     let h = shown::sound(c, 31, 31, false);
-    shown::heard(h);
+    shown::heard(rt, h)?;
     let after = h.channel;
     next.a = after;
-    next
+    Ok(next)
 }
 
 fn channel_after(c: Channel, i: u64) -> Channel {
@@ -46,20 +48,21 @@ fn channel_after(c: Channel, i: u64) -> Channel {
 }
 
 // A word, and what it leaves of each channel.
-fn word(m: Mixed, i: u64) -> Channels {
+fn word(rt: &impl Print, m: Mixed, i: u64) -> io::Result<Channels> {
     let s = m.channels;
-    say::text(form::WORD, i, m.word as u64, 0, 0);
-    shown::channel(s.a);
-    shown::channel(s.b);
-    shown::channel(s.c);
+    say::text(rt, form::WORD, i, m.word as u64, 0, 0)?;
+    shown::channel(rt, s.a)?;
+    shown::channel(rt, s.b)?;
+    shown::channel(rt, s.c)?;
     say::text(
+        rt,
         form::MUTED,
         muted(s, 0),
         muted(s, 1),
         muted(s, 2),
         muted(s, 3),
-    );
-    s
+    )?;
+    Ok(s)
 }
 
 fn muted(s: Channels, channel: usize) -> u64 {

@@ -4,38 +4,49 @@ use crate::{channels, runs, say, shown};
 use channel::Channel;
 use gates::Gates;
 use generators::Generators;
+use std::io;
 use tone::Tone;
 
-pub fn lines(kind: u64, count: u64, steps: u64, a: u64, b: u64, c: u64) {
+pub fn lines(
+    rt: &impl Print,
+    kind: u64,
+    count: u64,
+    steps: u64,
+    a: u64,
+    b: u64,
+    c: u64,
+) -> io::Result<()> {
     let mut i: u64 = 0;
     while i < count % 0x100 {
-        line(kind, steps, a % 0x1_0000_0000 + i, b, c);
+        line(rt, kind, steps, a % 0x1_0000_0000 + i, b, c)?;
         i += 1;
     }
+    Ok(())
 }
 
-fn line(kind: u64, steps: u64, a: u64, b: u64, c: u64) {
-    say::text(kind, a, b, c, 0);
+fn line(rt: &impl Print, kind: u64, steps: u64, a: u64, b: u64, c: u64) -> io::Result<()> {
+    say::text(rt, kind, a, b, c, 0)?;
     match kind {
-        form::PERIOD => period(short(a), b == 1),
-        form::TONE_RESET => tone_reset(Tone::reset(0x3e0)),
-        form::NOISE_RESET => noise_reset(with(7, 5, 0x12000)),
+        form::PERIOD => period(rt, short(a), b == 1),
+        form::TONE_RESET => tone_reset(rt, Tone::reset(0x3e0)),
+        form::NOISE_RESET => noise_reset(rt, with(7, 5, 0x12000)),
         form::TICKED | form::PERIOD_SET | form::RESTARTED | form::ENVELOPE_RESET => {
-            envelope_call(kind, with(7, 6, 15))
+            envelope_call(rt, kind, with(7, 6, 15))
         }
-        form::GATE => gate(Gates::from_register(byte(a))),
-        form::LEVEL => shown::level(byte(a) % 32),
-        form::PART | form::HALF_PART => {
-            shown::heard(shown::sound(
+        form::GATE => gate(rt, Gates::from_register(byte(a))),
+        form::LEVEL => shown::level(rt, byte(a) % 32),
+        form::PART | form::HALF_PART => shown::heard(
+            rt,
+            shown::sound(
                 Channel::new(),
                 byte(a) % 32,
                 byte(b) % 32,
                 kind == form::HALF_PART,
-            ))
-        }
-        form::DRUM => drum(a),
-        form::CHANNEL | form::WORDS => channels::go(kind, steps),
-        _ => runs::go(kind, start(kind, a, b, c), a, c, steps),
+            ),
+        ),
+        form::DRUM => drum(rt, a),
+        form::CHANNEL | form::WORDS => channels::go(rt, kind, steps),
+        _ => runs::go(rt, kind, start(kind, a, b, c), a, c, steps),
     }
 }
 
@@ -91,47 +102,47 @@ fn byte(n: u64) -> u8 {
 }
 
 // A period set, the flip that waits, and its release, twice.
-fn period(period: u16, irq: bool) {
+fn period(rt: &impl Print, period: u16, irq: bool) -> io::Result<()> {
     let mut old = Tone::reset(0x3e0).set_period(5, false);
     old.counter = 7;
     let set = old.set_period(period, irq);
     let released = set.apply_pending_reset(tone::BITS_B);
-    shown::tone(set);
-    say::number(say::flag(set.is_half_amplitude()));
-    shown::tone(released);
-    shown::edges(released.apply_pending_reset(tone::BITS_B));
+    shown::tone(rt, set)?;
+    say::number(rt, say::flag(set.is_half_amplitude()))?;
+    shown::tone(rt, released)?;
+    shown::edges(rt, released.apply_pending_reset(tone::BITS_B))
 }
 
-fn tone_reset(t: Tone) {
-    shown::edges(t);
-    say::number(t.period as u64);
-    say::number(say::flag(t.pending));
+fn tone_reset(rt: &impl Print, t: Tone) -> io::Result<()> {
+    shown::edges(rt, t)?;
+    say::number(rt, t.period as u64)?;
+    say::number(rt, say::flag(t.pending))
 }
 
-fn noise_reset(g: Generators) {
+fn noise_reset(rt: &impl Print, g: Generators) -> io::Result<()> {
     let h = high(g);
     let n = h.noise.set_period(31).reset();
-    shown::noise(n);
-    say::number(n.period as u64);
+    shown::noise(rt, n)?;
+    say::number(rt, n.period as u64)
 }
 
-fn envelope_call(kind: u64, g: Generators) {
+fn envelope_call(rt: &impl Print, kind: u64, g: Generators) -> io::Result<()> {
     let e = g.envelope.tick();
     match kind {
-        form::TICKED => shown::envelope(e),
-        form::PERIOD_SET => shown::envelope(e.set_period(65535)),
-        form::RESTARTED => shown::envelope(e.trigger()),
-        _ => shown::envelope(e.reset()),
+        form::TICKED => shown::envelope(rt, e),
+        form::PERIOD_SET => shown::envelope(rt, e.set_period(65535)),
+        form::RESTARTED => shown::envelope(rt, e.trigger()),
+        _ => shown::envelope(rt, e.reset()),
     }
 }
 
-fn gate(g: Gates) {
-    say::hex(g.gate(0, 0));
-    say::hex(g.gate(0, 0xffff_ffff));
-    say::hex(g.gate(0x3ff, 0));
-    say::hex(g.gate(0x3ff, 0xffff_ffff));
-    say::hex(g.gate(0x7fff, 0));
-    say::hex(g.gate(0x7fff, 0xffff_ffff));
+fn gate(rt: &impl Print, g: Gates) -> io::Result<()> {
+    say::hex(rt, g.gate(0, 0))?;
+    say::hex(rt, g.gate(0, 0xffff_ffff))?;
+    say::hex(rt, g.gate(0x3ff, 0))?;
+    say::hex(rt, g.gate(0x3ff, 0xffff_ffff))?;
+    say::hex(rt, g.gate(0x7fff, 0))?;
+    say::hex(rt, g.gate(0x7fff, 0xffff_ffff))
 }
 
 // Whole numbers and parts; zeros and subnormals; ends of the range and not numbers; the first sample that gives
@@ -149,12 +160,15 @@ const SAMPLES: [u32; 64] = [
     0xbf80_0000, 0xc080_0000, 0xb9c0_0300, 0x4b00_0000, 0x4f80_0000, 0x5f00_0000, 0x7e80_0000, 0x3727_c5ac,
 ];
 
-fn drum(i: u64) {
+fn drum(rt: &impl Print, i: u64) -> io::Result<()> {
     let at = (i % 64) as usize;
     let bits = SAMPLES[at];
     let drum = channel::Drum::Sample(sample(bits));
-    say::eight(bits);
-    shown::heard(shown::sound(Channel::new().with_drum(drum), 0, 31, true));
+    say::eight(rt, bits)?;
+    shown::heard(
+        rt,
+        shown::sound(Channel::new().with_drum(drum), 0, 31, true),
+    )
 }
 
 // The patterns of a NaN stand for one value.

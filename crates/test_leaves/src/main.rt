@@ -2,6 +2,8 @@
 //
 // What it must write, in `stdout`, comes from the crate's own tables.rs, generators.rs and mixer.rs, run:
 // `oracle/leaves` prints it again.
+#![tactic(auto)]
+
 mod channels;
 mod lines;
 mod runs;
@@ -11,6 +13,7 @@ mod shown;
 ghost use Rattle.std.specs.Prelude.{◌+◌, ◌<◌};
 
 use crate::say::form;
+use std::io;
 
 // A kind of line, how often, its steps, and three numbers, the first of which goes up from line to line. For generators they are a
 // period, a counter, and the tone's channel, the noise's register or the envelope's shape; for a period set, the period and the IRQ flag.
@@ -50,19 +53,27 @@ const LINES: [u64; 444] = [
     form::CHANNEL, 1, 6, 0, 0, 0,           form::DRUM, 64, 0, 0, 0, 0,              form::WORDS, 1, 16, 0, 0, 0,
 ];
 
-fn main() {
+fn main(rt: HostRuntime) -> io::Result<()> {
     let mut i: usize = 0;
     while i < 444 {
-        row(i);
+        row(&rt, i)?;
         i += 6;
     }
-    say::text(form::END, 0, 0, 0, 0);
+    say::text(&rt, form::END, 0, 0, 0, 0)
 }
 
-fn row(i: usize)
+fn row(rt: &impl Print, i: usize) -> io::Result<()>
     requires { i + 5 < 444 }
 {
-    lines::lines(at(i), at(i + 1), at(i + 2), at(i + 3), at(i + 4), at(i + 5));
+    lines::lines(
+        rt,
+        at(i),
+        at(i + 1),
+        at(i + 2),
+        at(i + 3),
+        at(i + 4),
+        at(i + 5),
+    )
 }
 
 fn at(i: usize) -> u64

@@ -5,26 +5,42 @@ use crate::say::form;
 use crate::{say, shown};
 use envelope::Envelope;
 use generators::Generators;
+use std::io;
 
-pub fn go(kind: u64, first: Generators, a: u64, c: u64, steps: u64) {
+pub fn go(
+    rt: &impl Print,
+    kind: u64,
+    first: Generators,
+    a: u64,
+    c: u64,
+    steps: u64,
+) -> io::Result<()> {
     let mut g = first;
     let mut i: u64 = 0;
     while i < steps {
-        g = step(kind, g, a, c, i);
+        g = step(rt, kind, g, a, c, i)?;
         i += 1;
     }
+    Ok(())
 }
 
-fn step(kind: u64, g: Generators, a: u64, c: u64, i: u64) -> Generators {
+fn step(
+    rt: &impl Print,
+    kind: u64,
+    g: Generators,
+    a: u64,
+    c: u64,
+    i: u64,
+) -> io::Result<Generators> {
     match kind {
-        form::TONE => tone(g, bits_of(c)),
-        form::FLIPS => flip(g, i),
-        form::REGISTERS | form::NOISE | form::HIGH_NOISE | form::STEPS => noise(kind, g, i),
-        form::SHAPE | form::LAST_OF_8 | form::ENVELOPE => level(g),
-        form::GENERATORS => call(g, i),
+        form::TONE => tone(rt, g, bits_of(c)),
+        form::FLIPS => flip(rt, g, i),
+        form::REGISTERS | form::NOISE | form::HIGH_NOISE | form::STEPS => noise(rt, kind, g, i),
+        form::SHAPE | form::LAST_OF_8 | form::ENVELOPE => level(rt, g),
+        form::GENERATORS => call(rt, g, i),
         _ => {
-            place(kind, (a % 0x1_0000_0000) as u32, (i % 256) as u8);
-            g
+            place(rt, kind, (a % 0x1_0000_0000) as u32, (i % 256) as u8)?;
+            Ok(g)
         }
     }
 }
@@ -37,55 +53,63 @@ fn bits_of(channel: u64) -> u32 {
     }
 }
 
-fn tone(g: Generators, bits: u32) -> Generators {
+fn tone(rt: &impl Print, g: Generators, bits: u32) -> io::Result<Generators> {
     let mut next = g;
     let t = g.a.tick(bits);
     next.a = t;
-    shown::edges(t);
-    next
+    shown::edges(rt, t)?;
+    Ok(next)
 }
 
-fn flip(g: Generators, i: u64) -> Generators {
+fn flip(rt: &impl Print, g: Generators, i: u64) -> io::Result<Generators> {
     let mut next = g;
     let t = g.a.tick(tone::BITS_A);
     next.a = t;
-    changed(g.a.edges, t.edges, i);
-    next
+    changed(rt, g.a.edges, t.edges, i)?;
+    Ok(next)
 }
 
 // The tick's number, where the tick changed something.
-fn changed(before: u32, after: u32, i: u64) {
+fn changed(rt: &impl Print, before: u32, after: u32, i: u64) -> io::Result<()> {
     if before != after {
-        say::number(i % 0x1_0000 + 1);
+        return say::number(rt, i % 0x1_0000 + 1);
     }
+    Ok(())
 }
 
 // The register, the whole noise, or the numbers of the ticks that step the register.
-fn noise(kind: u64, g: Generators, i: u64) -> Generators {
+fn noise(rt: &impl Print, kind: u64, g: Generators, i: u64) -> io::Result<Generators> {
     let mut next = g;
     let n = g.noise.tick();
     next.noise = n;
     match kind {
-        form::STEPS => changed(g.noise.register, n.register, i),
+        form::STEPS => changed(rt, g.noise.register, n.register, i)?,
         form::REGISTERS => {
-            say::hex(g.noise.register);
+            say::hex(rt, g.noise.register)?;
             let m = n.tick();
             next.noise = m;
         }
         _ => {
-            say::text(form::NOISE_TICK, n.period as u64, i % 0x1_0000 + 1, 0, 0);
-            shown::noise(n);
+            say::text(
+                rt,
+                form::NOISE_TICK,
+                n.period as u64,
+                i % 0x1_0000 + 1,
+                0,
+                0,
+            )?;
+            shown::noise(rt, n)?;
         }
     }
-    next
+    Ok(next)
 }
 
-fn level(g: Generators) -> Generators {
+fn level(rt: &impl Print, g: Generators) -> io::Result<Generators> {
     let mut next = g;
-    say::number(level_of(g.envelope));
+    say::number(rt, level_of(g.envelope))?;
     let e = g.envelope.tick();
     next.envelope = e;
-    next
+    Ok(next)
 }
 
 // 99 for an envelope out of range: none is.
@@ -106,16 +130,16 @@ fn level_of(e: Envelope) -> u64 {
 }
 
 // Calls one after the other, each on what the one before it left.
-fn call(g: Generators, i: u64) -> Generators {
+fn call(rt: &impl Print, g: Generators, i: u64) -> io::Result<Generators> {
     let next = after(g, i);
-    say::text(form::STEP, i, 0, 0, 0);
-    shown::tone(next.a);
-    shown::tone(next.b);
-    shown::tone(next.c);
-    say::hex(next.edges());
-    shown::noise(next.noise);
-    shown::envelope(next.envelope);
-    next
+    say::text(rt, form::STEP, i, 0, 0, 0)?;
+    shown::tone(rt, next.a)?;
+    shown::tone(rt, next.b)?;
+    shown::tone(rt, next.c)?;
+    say::hex(rt, next.edges())?;
+    shown::noise(rt, next.noise)?;
+    shown::envelope(rt, next.envelope)?;
+    Ok(next)
 }
 
 fn after(g: Generators, i: u64) -> Generators {
@@ -144,13 +168,13 @@ fn with_noise_and_envelope(g: Generators) -> Generators {
     next
 }
 
-fn place(kind: u64, n: u32, i: u8) {
+fn place(rt: &impl Print, kind: u64, n: u32, i: u8) -> io::Result<()> {
     match kind {
-        form::REGISTER_MASKS => say::hex(tables::register_mask(i as usize % 14) as u32),
-        form::GATE_MASKS => say::hex(tables::gate_mask(i)),
-        form::POWER_ON => say::hex(power_on::power_on_edges()),
-        form::GATES => shown::gates(gates::Gates::from_register(i)),
-        _ => say::number(number(kind, n, i)),
+        form::REGISTER_MASKS => say::hex(rt, tables::register_mask(i as usize % 14) as u32),
+        form::GATE_MASKS => say::hex(rt, tables::gate_mask(i)),
+        form::POWER_ON => say::hex(rt, power_on::power_on_edges()),
+        form::GATES => shown::gates(rt, gates::Gates::from_register(i)),
+        _ => say::number(rt, number(kind, n, i)),
     }
 }
 

@@ -1,4 +1,5 @@
 // Forms on standard output.
+use std::io;
 
 // The number of each form, in the order of `text`: what is shown, then what a step or a line begins with.
 #[rattlefmt::skip]
@@ -19,26 +20,35 @@ pub mod form {
 
 // In a form `#` stands for the next number, `%` for the next in hex and `@` for the next in eight digits of hex.
 #[rattlefmt::skip]
-pub fn text(form: u64, a: u64, b: u64, c: u64, d: u64) {
-    write(b"\x20#| %| @| #/%| %/%| # # % %| # # # #| # # @ @| # @ @|\n|register masks:|\ngate masks of 0 to 15:|\
+pub fn text(rt: &impl Print, form: u64, a: u64, b: u64, c: u64, d: u64) -> io::Result<()> {
+    write(rt, b"\x20#| %| @| #/%| %/%| # # % %| # # # #| # # @ @| # @ @|\n|register masks:|\ngate masks of 0 to 15:|\
         \noffsets of shapes 0 to 31:|\nlevels:|\nrow #:|\nseeds of 0, 1, 2, 2^16, 2^31, 2^32 - 1:|\npower-on edges:|\
         \ntone # # #:|\ntone # flips at:|\nperiod #: #|\ntone reset:|\nnoise registers:|||\nnoise steps #:|\nnoise reset:|\
         \nshape #:|\nshape 8 at 63, then:|\nenvelope # #:|\nticked:|\nperiod set:|\nrestarted:|\nenvelope reset:||\
         \ngates of 0 to 63:|\ngate by #:|\nvolumes 0 to 31 with envelope #:|\nindices 0 to 31 gated by #:|\nlevel #:|\
-        \n# of #:| # of #, halved:||\ndrum||\nnoise # #:|\ngenerators #:|\nchannel #:|\nword #: #| muted: # # # #", form, a, b, c, d);
+        \n# of #:| # of #, halved:||\ndrum||\nnoise # #:|\ngenerators #:|\nchannel #:|\nword #: #| muted: # # # #", form, a, b, c, d)
 }
 
-fn write(forms: &[u8], form: u64, a: u64, b: u64, c: u64, d: u64) {
+fn write(
+    rt: &impl Print,
+    forms: &[u8],
+    form: u64,
+    a: u64,
+    b: u64,
+    c: u64,
+    d: u64,
+) -> io::Result<()> {
     let mut bytes = [0u8; 96];
     let out: &mut [u8] = &mut bytes;
     let length = put(out, forms, form, a, b, c, d);
-    flush(&bytes, length);
+    flush(rt, &bytes, length)
 }
 
-fn flush(bytes: &[u8], length: usize) {
+fn flush(rt: &impl Print, bytes: &[u8], length: usize) -> io::Result<()> {
     if length <= bytes.len() {
-        io::write_all(1, &bytes[..length]);
+        return rt.write_all(&bytes[..length]);
     }
+    Ok(())
 }
 
 // The form stands behind as many bars as its number says.
@@ -117,16 +127,16 @@ fn digits(n: u64) -> usize {
     }
 }
 
-pub fn number(n: u64) {
-    text(form::NUMBER, n, 0, 0, 0);
+pub fn number(rt: &impl Print, n: u64) -> io::Result<()> {
+    text(rt, form::NUMBER, n, 0, 0, 0)
 }
 
-pub fn hex(n: u32) {
-    text(form::HEX, n as u64, 0, 0, 0);
+pub fn hex(rt: &impl Print, n: u32) -> io::Result<()> {
+    text(rt, form::HEX, n as u64, 0, 0, 0)
 }
 
-pub fn eight(n: u32) {
-    text(form::EIGHT, n as u64, 0, 0, 0);
+pub fn eight(rt: &impl Print, n: u32) -> io::Result<()> {
+    text(rt, form::EIGHT, n as u64, 0, 0, 0)
 }
 
 pub fn flag(yes: bool) -> u64 {

@@ -5,51 +5,55 @@ ghost use Rattle.std.specs.Prelude.{◌<◌};
 
 use crate::say::{bits, flag, form, text};
 use channel::{Channel, Drum, Heard};
+use std::io;
 
-pub fn edges(t: tone::Tone) {
-    text(form::PAIR, t.counter as u64, t.edges as u64, 0, 0);
+pub fn edges(rt: &impl Print, t: tone::Tone) -> io::Result<()> {
+    text(rt, form::PAIR, t.counter as u64, t.edges as u64, 0, 0)
 }
 
-pub fn tone(t: tone::Tone) {
-    edges(t);
-    text(form::NUMBER, flag(t.pending), 0, 0, 0);
+pub fn tone(rt: &impl Print, t: tone::Tone) -> io::Result<()> {
+    edges(rt, t)?;
+    text(rt, form::NUMBER, flag(t.pending), 0, 0, 0)
 }
 
-pub fn noise(n: noise::Noise) {
+pub fn noise(rt: &impl Print, n: noise::Noise) -> io::Result<()> {
     text(
+        rt,
         form::A_NOISE,
         n.counter as u64,
         flag(n.half),
         n.register as u64,
         n.output as u64,
-    );
+    )
 }
 
-pub fn envelope(e: envelope::Envelope) {
+pub fn envelope(rt: &impl Print, e: envelope::Envelope) -> io::Result<()> {
     let start = flag(e.position == -64);
     text(
+        rt,
         form::AN_ENVELOPE,
         e.counter as u64,
         e.period as u64,
         start,
         e.offset as u64,
-    );
+    )
 }
 
-pub fn gates(g: gates::Gates) {
-    text(form::MASKS, g.tone as u64, g.noise as u64, 0, 0);
+pub fn gates(rt: &impl Print, g: gates::Gates) -> io::Result<()> {
+    text(rt, form::MASKS, g.tone as u64, g.noise as u64, 0, 0)
 }
 
-pub fn channel(c: Channel) {
+pub fn channel(rt: &impl Print, c: Channel) -> io::Result<()> {
     let drum = c.drum;
     let muted = flag(c.muted);
     text(
+        rt,
         form::A_CHANNEL,
         muted,
         has_drum(drum),
         bits(c.output),
         bits(c.amplitude),
-    );
+    )
 }
 
 fn has_drum(drum: Drum) -> u64 {
@@ -59,15 +63,16 @@ fn has_drum(drum: Drum) -> u64 {
     }
 }
 
-pub fn heard(h: Heard) {
+pub fn heard(rt: &impl Print, h: Heard) -> io::Result<()> {
     let c = h.channel;
     text(
+        rt,
         form::HEARD,
         h.out as u64,
         bits(c.output),
         bits(c.amplitude),
         0,
-    );
+    )
 }
 
 pub fn sound(c: Channel, gated: u8, ungated: u8, half: bool) -> Heard
@@ -78,11 +83,11 @@ pub fn sound(c: Channel, gated: u8, ungated: u8, half: bool) -> Heard
 }
 
 // A level open and shut, whole and halved.
-pub fn level(index: u8)
+pub fn level(rt: &impl Print, index: u8) -> io::Result<()>
     requires { index < 32 }
 {
-    heard(sound(Channel::new(), index, index, false));
-    heard(sound(Channel::new(), 0, index, false));
-    heard(sound(Channel::new(), index, index, true));
-    heard(sound(Channel::new(), 0, index, true));
+    heard(rt, sound(Channel::new(), index, index, false))?;
+    heard(rt, sound(Channel::new(), 0, index, false))?;
+    heard(rt, sound(Channel::new(), index, index, true))?;
+    heard(rt, sound(Channel::new(), 0, index, true))
 }

@@ -3,105 +3,116 @@
 // Standard input holds items one after the other. `text=N` on a line of its own, then N bytes: a list of pitches as text. `lists=N`, then
 // N bytes: a line `master=`, then lines `pitch=` and lines `period=`, 64 of each at most. What it must write, in `stdout`, is the oracle's
 // own reading of 02: `oracle/pitches` writes both files.
+#![tactic(auto)]
+
 mod lists;
 mod say;
 
+use standard_input::read_into;
+use std::io;
+use std::io::Read;
+
 // The next byte of the input, 0 where it has ended.
-#[derive(Drop)]
+#[derive(Clone, Copy)]
 struct Next {
     ended: bool,
     byte: u8,
 }
 
-fn main() {
+fn main(rt: HostRuntime) -> io::Result<()> {
     let mut text = dump_input::room();
-    check_all(&mut text);
+    check_all(&rt, &mut rt.stdin(), &mut text)
 }
 
 // Item after item; there are fewer than the loop has turns.
-fn check_all(text: &mut [u8]) {
-    let mut turns: u32 = 1_000_000_000;
-    while turns > 0 {
-        if !check_next(text) {
-            return;
+fn check_all(rt: &impl Print, input: &mut impl Read, text: &mut [u8]) -> io::Result<()> {
+    for _ in 0..1_000_000_000 {
+        if !check_next(rt, input, text)? {
+            break;
         }
-        turns -= 1;
     }
+    Ok(())
 }
 
 // False where the input has ended, or where what comes next is no item.
-fn check_next(text: &mut [u8]) -> bool {
+fn check_next(rt: &impl Print, input: &mut impl Read, text: &mut [u8]) -> io::Result<bool> {
     let mut header = [0u8; 16];
-    if read_header(&mut header) == 0 {
-        return false;
+    if read_header(input, &mut header)? == 0 {
+        return Ok(false);
     }
-    if check_one(&header, text) {
-        return true;
+    if check_one(rt, input, &header, text)? {
+        return Ok(true);
     }
-    say::bad();
-    false
+    say::bad(rt)?;
+    Ok(false)
 }
 
 // How many bytes were read, up to an LF and with it, as far as there is room; none where the input has ended.
-fn read_header(header: &mut [u8]) -> usize {
+fn read_header(input: &mut impl Read, header: &mut [u8]) -> io::Result<usize> {
     let mut n = 0;
     while n < header.len() {
-        let next = next_byte();
+        let next = next_byte(input)?;
         if next.ended {
-            return n;
+            return Ok(n);
         }
         header[n] = next.byte;
         n += 1;
         if next.byte == b'\n' {
-            return n;
+            return Ok(n);
         }
     }
-    n
+    Ok(n)
 }
 
-fn next_byte() -> Next {
+fn next_byte(input: &mut impl Read) -> io::Result<Next> {
     let mut one = [0u8; 1];
-    let got = io::read_full(0, &mut one);
-    Next {
+    let got = read_into(input, &mut one).count()?;
+    Ok(Next {
         ended: got == 0,
         byte: one[0],
-    }
+    })
 }
 
 // The item that follows its header; false where it is no header, where too few bytes follow, or where they are no lists.
-fn check_one(header: &[u8], text: &mut [u8]) -> bool {
+fn check_one(
+    rt: &impl Print,
+    input: &mut impl Read,
+    header: &[u8],
+    text: &mut [u8],
+) -> io::Result<bool> {
     let notes = text_entries::line_entry_at(b"text=", header, 0);
     let lists = text_entries::line_entry_at(b"lists=", header, 0);
     let size = if notes.bad { lists } else { notes };
     if size.bad {
-        return false;
+        return Ok(false);
     }
     let n = size.value as usize;
-    if !read_text(text, n) {
-        return false;
+    if !read_text(input, text, n)? {
+        return Ok(false);
     }
     if notes.bad {
-        return lists::check(text, n);
+        return lists::check(rt, text, n);
     }
-    check_notes(text, n);
-    true
+    check_notes(rt, text, n)?;
+    Ok(true)
 }
 
-fn read_text(text: &mut [u8], n: usize) -> bool {
+fn read_text(input: &mut impl Read, text: &mut [u8], n: usize) -> io::Result<bool> {
     if n <= text.len() {
-        return io::read_full(0, &mut text[..n]) == n;
+        return Ok(read_into(input, &mut text[..n]).count()? == n);
     }
-    false
+    Ok(false)
 }
 
-fn check_notes(text: &[u8], n: usize) {
+fn check_notes(rt: &impl Print, text: &[u8], n: usize) -> io::Result<()> {
     if n <= text.len() {
-        tell(&text[..n]);
+        return tell(rt, &text[..n]);
     }
+    Ok(())
 }
 
-fn tell(text: &[u8]) {
+fn tell(rt: &impl Print, text: &[u8]) -> io::Result<()> {
     let mut out = notes_output::room();
     let length = notes_output::answer(text, &mut out);
-    say::notes(&out, length);
+    say::notes(rt, &out, length)
 }

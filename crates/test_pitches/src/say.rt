@@ -1,20 +1,21 @@
 // What is printed of each item: a line `text` and the list's own output, or `lists=R yes` or `lists=R no`.
 use pitch::Checked;
+use std::io;
 
-pub fn notes(out: &[u8], length: usize) {
-    io::write_all(1, b"text\n");
-    write(out, length);
+pub fn notes(rt: &impl Print, out: &[u8], length: usize) -> io::Result<()> {
+    rt.write_all(b"text\n")?;
+    write(rt, out, length)
 }
 
-pub fn checked(answer: Checked) {
+pub fn checked(rt: &impl Print, answer: Checked) -> io::Result<()> {
     let mut bytes = [0u8; 16];
     let out: &mut [u8] = &mut bytes;
     let length = put_line(out, answer);
-    write(&bytes, length);
+    write(rt, &bytes, length)
 }
 
-pub fn bad() {
-    io::write_all(1, b"bad\n");
+pub fn bad(rt: &impl Print) -> io::Result<()> {
+    rt.write_all(b"bad\n")
 }
 
 fn put_line(out: &mut [u8], answer: Checked) -> usize {
@@ -26,8 +27,9 @@ fn put_line(out: &mut [u8], answer: Checked) -> usize {
     text_put::put_bytes(out, word, b"no\n")
 }
 
-fn write(bytes: &[u8], length: usize) {
+fn write(rt: &impl Print, bytes: &[u8], length: usize) -> io::Result<()> {
     if length <= bytes.len() {
-        io::write_all(1, &bytes[..length]);
+        return rt.write_all(&bytes[..length]);
     }
+    Ok(())
 }

@@ -1,9 +1,11 @@
 // A line of a text that has one value: the value, and the place of the next line. Nothing here knows what the text is for.
+#![tactic(auto)]
+
 ghost use Rattle.std.specs.Prelude.{◌≡◌};
 ghost use Rattle.text_entries.specs.Entries.{byte_entry_at, is_byte, line_entry_at, long_entry_at};
 
 // A line that is missing or not of its form is bad.
-#[derive(Drop)]
+#[derive(Clone, Copy)]
 pub struct Entry {
     pub bad: bool,
     pub value: u64,
@@ -23,7 +25,7 @@ pub fn line_entry_at(key: &[u8], text: &[u8], at: usize) -> Entry
 }
 
 // The same of a decimal of up to 20 digits; `over` is one above 2^64 - 1.
-#[derive(Drop)]
+#[derive(Clone, Copy)]
 pub struct LongEntry {
     pub bad: bool,
     pub over: bool,
@@ -45,7 +47,7 @@ pub fn long_entry_at(key: &[u8], text: &[u8], at: usize) -> LongEntry
 }
 
 // The same of two lower-case hex digits.
-#[derive(Drop)]
+#[derive(Clone, Copy)]
 pub struct ByteEntry {
     pub bad: bool,
     pub value: u8,

@@ -1,8 +1,10 @@
 // Decimals and hex digits in a text. Of dumps and captures they have the limits, 10 digits and lower-case hex, and nothing else.
+#![tactic(auto)]
+
 ghost use Rattle.std.specs.Prelude.{◌≡◌, true, ◌+◌, ◌*◌, ◌<◌, length};
 ghost use Rattle.text_fields.specs.Fields.{all_hex, decimal_of, hex_byte, hex_value, needless};
 
-#[derive(Drop)]
+#[derive(Clone, Copy)]
 pub struct Number {
     pub bad: bool,
     pub value: u64,

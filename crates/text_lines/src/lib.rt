@@ -1,9 +1,11 @@
 // One line of a text, and its value. Nothing here knows what the text is for; everything runs over (text, place), and nothing is copied.
+#![tactic(auto)]
+
 ghost use Rattle.std.specs.Prelude.{◌≡◌};
 ghost use Rattle.text_lines.specs.Lines.{line_at, starts_with, value_at};
 
 // Where a line's bytes start and end, where the next line starts, and whether an LF ends this one.
-#[derive(Drop)]
+#[derive(Clone, Copy)]
 pub struct Line {
     pub start: usize,
     pub end: usize,

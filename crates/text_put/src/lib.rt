@@ -1,4 +1,6 @@
 // Bytes and numbers as text, put into a lent buffer at a place. Nothing here knows what the text is for.
+#![tactic(auto)]
+
 ghost use Rattle.std.specs.Prelude.{◌≡◌, ◌<◌};
 ghost use Rattle.io.specs.Digits.{hex_digit_ascii as Digits·glyph};
 ghost use Rattle.text_put.specs.Text.{decimal_text, hex_text, laid, number_text, place_after};

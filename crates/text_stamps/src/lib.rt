@@ -1,11 +1,13 @@
 // Decimals of up to 20 digits, as a stamp has them, held to 2^64 - 1. 02, request 01.
+#![tactic(auto)]
+
 ghost use Rattle.std.specs.Prelude.{◌≡◌};
 ghost use Rattle.text_stamps.specs.Stamps.{long_decimal_of};
 
 use text_fields::leading_zero;
 
 // `over` is a decimal of good form above 2^64 - 1; its value is 0.
-#[derive(Drop)]
+#[derive(Clone, Copy)]
 pub struct LongNumber {
     pub bad: bool,
     pub over: bool,

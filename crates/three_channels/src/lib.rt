@@ -1,10 +1,12 @@
 // Three channels by their number. 01, "Numbers a call can answer" and "Power-on and reset"; the crate's mixer.rs.
+#![tactic(auto)]
+
 ghost use Rattle.std.specs.Prelude.{◌≡◌};
 ghost use Rattle.three_channels.specs.Channels.{channel_at, put_channel, set_mute, is_muted, set_drum, channels_reset, all_quiet};
 
 use channel::{Channel, Drum};
 
-#[derive(Drop)]
+#[derive(Clone, Copy)]
 pub struct Channels {
     pub a: Channel,
     pub b: Channel,

@@ -1,10 +1,12 @@
 // The tone of one channel. 01, "Registers and ports" and "One tick, one word"; the crate's generators.rs.
+#![tactic(auto)]
+
 ghost use Rattle.std.specs.Prelude.{◌≡◌, ◌≤◌};
 ghost use Rattle.tone.specs.Tone.{tone_step, tone_tick, tone_reset, tone_set, tone_released, is_halved};
 
 // `edges` are five equal bits at the channel's place; `pending` marks a flip that waits for the IRQ's end.
 #[repr(C)]
-#[derive(Drop)]
+#[derive(Clone, Copy)]
 pub struct Tone {
     pub counter: u16,
     pub period: u16,
@@ -13,7 +15,7 @@ pub struct Tone {
 }
 
 // What one tick changes of a tone; a tick's counter is of 32 bits, so that it stays in a register of the machine.
-#[derive(Drop)]
+#[derive(Clone, Copy)]
 pub struct Stepped {
     pub counter: u32,
     pub edges: u32,

@@ -1,4 +1,6 @@
 // Which variants there are, and what making a chip of one answers: refusal 13, behind 1, 2 and 3. 02, request 05.
+#![tactic(auto)]
+
 ghost use Rattle.std.specs.Prelude.{◌≡◌};
 ghost use Rattle.variants.specs.Variants.{making_no, variant_in};
 

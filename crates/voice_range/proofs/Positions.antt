@@ -22,7 +22,7 @@ le_not_lt (negsuc m) (negsuc n) = leb-not n m
 
 module _ {A : Type 0} (p : ℤ) (q : ℤ) (x a b : A) (h : mag p < 2147483648) where
   back : to_z w32 (of_z w32 p) ≡ p
-  back = to_z-of_z (record { sfits = h })
+  back = to_z-of_z {w = w32} (record { sfits = h })
 
   -- below a bound, or not
   pub on_below : lt_z (to_z w32 (of_z w32 p)) q ≡ true → x ≡ b → x ≡ cond (le_z q p) a b

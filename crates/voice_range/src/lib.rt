@@ -1,4 +1,6 @@
 // The test of a voice that is handed in, a part of refusal 22. 01, "What changes shape".
+#![tactic(auto)]
+
 ghost use Rattle.std.specs.Prelude.{◌≡◌};
 ghost use Rattle.voice_range.specs.Range.{bytes_in, tone_in, noise_in, all_or_none, envelope_in, generators_in, gates_in, voice_in};
 
@@ -38,6 +40,7 @@ fn bytes_in(registers: [u8; 14]) -> bool
     true
 }
 
+#[tactic(auto, unfolding(crate::specs::Range::generators_in))]
 fn generators_in(generators: Generators) -> bool
     ensures { result ≡ generators_in generators }
 {

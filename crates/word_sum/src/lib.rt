@@ -1,4 +1,6 @@
 // The word of three channels, without what each keeps of it: the sum needs no f32. 01, "One tick, one word"; the crate's mixer.rs.
+#![tactic(auto)]
+
 ghost use Rattle.std.specs.Prelude.{◌≡◌, ◌≤◌, ◌<◌};
 ghost use Rattle.tables.specs.Levels.{levels};
 ghost use Rattle.levels.specs.Levels.{gated_level, loudness_of};

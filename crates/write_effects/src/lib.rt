@@ -1,16 +1,18 @@
 // What register writes change, for the calls to report. 02, request 03.
+#![tactic(auto)]
+
 ghost use Rattle.std.specs.Prelude.{◌≡◌, ◌+◌, ◌<◌};
 ghost use Rattle.write_effects.specs.Effects.{differences, effect_of, one};
 
 // Of one write: whether the stored byte changed, and whether the envelope restarted.
-#[derive(Drop)]
+#[derive(Clone, Copy)]
 pub struct Effect {
     pub changed: bool,
     pub restarted: bool,
 }
 
 // Of some: how many did.
-#[derive(Drop)]
+#[derive(Clone, Copy)]
 pub struct Effects {
     pub changed: u32,
     pub restarted: u32,

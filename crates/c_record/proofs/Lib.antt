@@ -1,2 +1,0 @@
-pub mod Drums
-pub mod Replies

@@ -1,0 +1,12 @@
+-- `capture_steps::give_words` meets its contract: the words asked for fit the buffer for them. Assumes nothing.
+use lib.Seq.{length-take-le}
+use native.Mathlib.Omega.{arith}
+use mathlib.Core.Path.{sym, ap, ◌∙◌}
+use Rattle.dump_progress.specs.Progress.{words_in}
+use Rattle.capture_steps.proofs.give_words.Goals as goal
+
+pub slice_bounds-give_lines-end : goal.slice_bounds-give_lines-end
+slice_bounds-give_lines-end c = sym (length-take-le _ _ (omega (arith, c.words_in-n.ensures)))
+
+pub give_lines-requires : goal.give_lines-requires
+give_lines-requires c = length-take-le _ _ (omega (arith, c.words_in-n.ensures)) ∙ c.words_in-n.ensures ∙ ap (words_in _) c.free_words.ensures

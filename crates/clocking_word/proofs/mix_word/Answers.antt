@@ -1,0 +1,11 @@
+-- `clocking_word::mix_word` meets its contract: an envelope in range gives a level index. Assumes nothing.
+use Rattle.envelope.proofs.Circling.{envelope-level-lt}
+use Rattle.clocking_word.specs.Word.{mixed_of}
+use Rattle.clocking_word.proofs.mix_word.Goals as goal
+
+pub mix-requires : goal.mix-requires
+mix-requires c = record { envelope_bound = rw c.level-level.ensures (envelope-level-lt c.requires.envelope_in_range); table_value = c.requires.table_value }
+
+pub returns : goal.returns
+unfolding mixed_of
+returns c = rw (c.mix.ensures, c.halves_of-halves.ensures, c.volumes_of-volumes.ensures, c.level-level.ensures)

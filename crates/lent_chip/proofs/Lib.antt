@@ -1,4 +1,0 @@
-pub mod ChipFields
-pub mod ChipParts
-pub mod Lengths
-pub mod ShownRing

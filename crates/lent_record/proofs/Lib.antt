@@ -1,3 +1,0 @@
-pub mod RecordFields
-pub mod RecordParts
-pub mod Lengths

@@ -1,0 +1,9 @@
+-- `settling::period_after` meets its contract. Assumes nothing.
+use Rattle.laws.proofs.Tests.{tests}
+use Rattle.settling.proofs.period_after.Goals as goal
+
+pub returns-then-marks-both-eq0 : goal.returns-then-marks-both-eq0
+returns-then-marks-both-eq0 c = search tests
+
+pub returns : goal.returns
+returns c = search tests
