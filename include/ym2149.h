@@ -1,4 +1,4 @@
-/* The proved YM2149 for C and C++ on x86-64 Linux. `rt staticlib c_interface` writes the library, target/staticlib/libc_interface.a.
+/* The proved YM2149 for C and C++ on x86-64 Linux. `bindings/library` writes the library, target/staticlib/libc_interface.a.
  * The comments are sentences of document 01, the exact rules, as document 02 amends them; what the calls of crates/c_interface promise is said
  * in definitions of them.
  *

@@ -6,19 +6,20 @@ import re
 from tree import ROOT, code_of, crates, edit_files_of, files_of, kind_of, lines_of
 
 # The libraries under `replay` are the bench's own tools: most promise nothing more than that they are safe and end, and what they
-# print is compared with the crate's (docs/DECISIONS.md, "The libraries under `replay`"). And what `standard_input` reads no promise can say.
-EXEMPT = ("script_", "standard_input")
+# print is compared with the crate's (docs/DECISIONS.md, "The libraries under `replay`"). What `standard_input` reads of the system, and what
+# `failures` says to it, no promise can say.
+EXEMPT = ("script_", "standard_input", "failures")
 
 PROMISES = os.path.join(ROOT, "docs", "PROMISES.md")
 ITEM = re.compile(r'^impl\b(?:<.*?>)? (?:\S+ for )?(\w+)|^\}|^ *(pub )?(?:const |unsafe |extern "C" )*fn (\w+)', re.M)
 CLAUSE = re.compile(r"\b(requires|ensures)(?: \w+)?\s*$")
-FACT = re.compile(r"\s*λ \S+\s*⌜(.*)⌝\s*", re.S)
-HANDED_ON = re.compile(r"^pub use (\w+)::(\w+);$", re.M)
+HANDED_ON = re.compile(r"^pub use (\w+)::(?:(\w+)|\{([^{}]*)\});$", re.M)
+EXPORTED = re.compile(r'^pub extern "C" fn (\w+)\((?:(?!^\{$).)*^\{\n    (\w+)::\1\([^;{}]*\)\n\}', re.M | re.S)
 BREAKS = re.compile(r"# breaks: (.*)")
 
 
 def promise_at(text, at):
-    """What a function ensures, from behind its name to its body: its clauses, without the answer's name and the brackets."""
+    """What a function ensures, from behind its name to its body: its clauses' texts, without their names."""
     clauses = []
     while True:
         start = text.index("{", at)
@@ -30,12 +31,17 @@ def promise_at(text, at):
             depth += {"{": 1, "}": -1}.get(text[at], 0)
             at += 1
         if clause[1] == "ensures":
-            fact = FACT.fullmatch(text, start + 1, at - 1)
-            clauses.append(" ".join((fact[1] if fact else text[start + 1 : at - 1]).split()))
+            clauses.append(" ".join(text[start + 1 : at - 1].split()))
+
+
+def tells(text, at):
+    """Whether a function, from behind its name, answers or changes anything: if not, nothing is to be settled."""
+    signature = text[at : text.index("{", at)]
+    return "->" in signature or "&mut" in signature
 
 
 def functions(crate):
-    """The functions of a crate: name, with its module's and its type's; whether it is public; what it promises."""
+    """The functions of a crate: name, with its module's and its type's; whether it is public; what it promises; whether it tells anything."""
     for path in files_of(crate):
         if kind_of(path) != ".rt":
             continue
@@ -45,7 +51,7 @@ def functions(crate):
         owner = ""
         for item in ITEM.finditer(text):
             if item[3]:
-                yield module + owner + item[3], bool(item[2]), promise_at(text, item.end())
+                yield module + owner + item[3], bool(item[2]), promise_at(text, item.end()), tells(text, item.end())
             else:
                 owner = item[1] + "::" if item[1] else ""
 
@@ -56,14 +62,15 @@ def library_of(crate):
     return lines_of(path) if os.path.exists(path) else []
 
 
-def public_calls():
-    """The public calls of the libraries, in order, and what each promises: (crate, call) to promise."""
+def public_calls(telling=False):
+    """The public calls of the libraries, in order, and what each promises: (crate, call) to promise. With `telling` those alone that answer or
+    change anything."""
     return {
         (crate, name): promise
         for crate in crates()
         if library_of(crate) and not crate.startswith(EXEMPT)
-        for name, is_public, promise in functions(crate)
-        if is_public
+        for name, is_public, promise, tells_any in functions(crate)
+        if is_public and (tells_any or not telling)
     }
 
 
@@ -71,8 +78,19 @@ def handed_on(listed):
     """The calls that a library hands on by `pub use`, and whose they are."""
     found = {}
     for crate in listed:
-        for source, name in HANDED_ON.findall("\n".join(library_of(crate))):
-            found[crate, name] = (source, name) if source in listed else (crate, source + "::" + name)
+        for source, single, names in HANDED_ON.findall("\n".join(library_of(crate))):
+            for name in filter(None, (one.strip() for one in (single + names).split(","))):
+                found[crate, name] = (source, name) if source in listed else (crate, source + "::" + name)
+    return found
+
+
+def exported(public):
+    """The calls of libraries for C that do no more than make a call of the same name and promise: whose they are."""
+    found = {}
+    for crate in dict.fromkeys(crate for crate, _ in public):
+        for name, source in EXPORTED.findall("\n".join(library_of(crate))):
+            if public.get((source, name)) == public[crate, name]:
+                found[crate, name] = (source, name)
     return found
 
 

@@ -178,7 +178,7 @@ fn page_of_the_table() {
     let page = std::fs::read_to_string(path).unwrap();
     let code: Vec<&str> = page.lines().map(|line| line.split("--").next().unwrap()).collect();
     let code = code.join(" ");
-    let (_, list) = code.split_once("envData =").unwrap();
+    let (_, list) = code.split_once("env_data =").unwrap();
     let list = list.trim().strip_suffix("∷ []").unwrap();
     let numbers: Vec<u8> = list.split('∷').map(|number| number.trim().parse().unwrap()).collect();
     assert_eq!(numbers, ENV_DATA);
