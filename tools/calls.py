@@ -12,6 +12,8 @@ EXEMPT = ("script_", "standard_input", "failures")
 
 PROMISES = os.path.join(ROOT, "docs", "PROMISES.md")
 ITEM = re.compile(r'^impl\b(?:<.*?>)? (?:\S+ for )?(\w+)|^\}|^ *(pub )?(?:const |unsafe |extern "C" )*fn (\w+)', re.M)
+# A conversion: `From` promises what its `from_gives` says of the value and the answer.
+FROM = re.compile(r"^impl From<(\w+)> for (\w+) \{\n    ghost from_gives = \{ λ \w+ r\. (.*) \};", re.M)
 CLAUSE = re.compile(r"\b(requires|ensures)(?: \w+)?\s*$")
 HANDED_ON = re.compile(r"^pub use (\w+)::(?:(\w+)|\{([^{}]*)\});$", re.M)
 EXPORTED = re.compile(r'^pub extern "C" fn (\w+)\((?:(?!^\{$).)*^\{\n    (\w+)::\1\([^;{}]*\)\n\}', re.M | re.S)
@@ -49,10 +51,14 @@ def functions(crate):
         module = os.path.basename(path)[: -len(".rt")]
         module = "" if module in ("lib", "main") else module + "::"
         owner = ""
+        conversions = {made.start(): made for made in FROM.finditer(text)}
         for item in ITEM.finditer(text):
-            if item[3]:
+            if made := conversions.get(item.start()):
+                owner = None
+                yield module + "%sFrom%s::from" % (made[2], made[1]), True, re.sub(r"^r ≡", "result ≡", made[3]), True
+            elif item[3] and owner is not None:
                 yield module + owner + item[3], bool(item[2]), promise_at(text, item.end()), tells(text, item.end())
-            else:
+            elif not item[3]:
                 owner = item[1] + "::" if item[1] else ""
 
 

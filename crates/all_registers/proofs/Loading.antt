@@ -13,11 +13,7 @@ abbrev written_from : ℕ → ℕ → List ℕ → Voice → Voice
 written_from n i bytes v = applied_in_order (registers_from n i (λ register. get_or bytes register 0)) v
 
 pub record Loading (bytes : List ℕ) (v₀ v : Voice) (i : ℕ) : Type 0 where
-  pub place : i ≤ 14
   pub rest : written_from (14 - i) i bytes v ≡ loaded bytes v₀
-
-pub loading-start : (bytes : List ℕ) (v : Voice) → Loading bytes v v 0
-loading-start bytes v = record { place = omega arith; rest = refl }
 
 next : (n i : ℕ) (bytes : List ℕ) (v : Voice) → written_from (suc n) i bytes v ≡ written_from n (i + 1) bytes (apply_register i (get_or bytes i 0) v)
 unfolding applied_in_order registers_from
@@ -28,7 +24,6 @@ module _ {bytes : List ℕ} {v₀ v : Voice} {i : ℕ} (l : Loading bytes v₀ v
   loading-on {w} h e =
       let more : 14 - i ≡ suc (14 - (i + 1)) = omega arith in
       record {
-        place = omega arith;
         rest = rw e (sym (next (14 - (i + 1)) i bytes v) ∙ sym (ap (λ (n : ℕ). written_from n i bytes v) more) ∙ l.rest);
       }
 

@@ -43,11 +43,8 @@ pub fn load_registers(voice: Voice, bytes: [u8; 16]) -> Voice
     ensures { result ≡ loaded bytes voice }
 {
     let mut next = voice;
-    let mut i: u8 = 0;
-    while i < REGISTERS {
-        let at = i as usize;
-        next = next.apply_register(i, bytes[at]);
-        i = i + 1;
+    for register in 0..REGISTERS {
+        next = next.apply_register(register, bytes[register as usize]);
     }
     next
 }

@@ -1,4 +1,5 @@
-// What the calls of the chip answer. 01, "Numbers a call can answer".
+// What the calls of the chip answer. 01, "Numbers a call can answer". C reads these records, each with its number first: so it is a number here,
+// and no enum or Result.
 #![tactic(auto)]
 
 ghost use Rattle.std.specs.Prelude.{◌≡◌};

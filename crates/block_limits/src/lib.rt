@@ -2,21 +2,24 @@
 #![tactic(auto)]
 
 ghost use Rattle.std.specs.Prelude.{◌≡◌, ◌≤◌};
-ghost use Rattle.block_limits.specs.Limits.{block_number};
+ghost use Rattle.block_limits.specs.Limits.{accept_block};
+
+use refusals::Refusal;
 
 pub const LONGEST_BLOCK: usize = 65_536;
 
 // Decided without overflow: a word's cycles are below 2^32.
-pub fn block_no(start: u64, cycles: u64, words: usize) -> u8
+#[tactic(auto, unfolding(crate::specs::Limits::accept_block))]
+pub fn accept_block(start: u64, cycles: u64, words: usize) -> Result<(), Refusal>
     requires { cycles ≤ 4294967295 }
-    ensures { result ≡ block_number words start cycles }
+    ensures { result ≡ accept_block words start cycles }
 {
     if words > LONGEST_BLOCK {
-        return refusals::BLOCK_TOO_LONG;
+        return Err(Refusal::BlockTooLong);
     }
     let span = (words as u64) * cycles;
-    if span > 0xffff_ffff_ffff_ffff - start {
-        return refusals::BLOCK_TOO_LATE;
+    if span > u64::MAX - start {
+        return Err(Refusal::BlockTooLate);
     }
-    refusals::ACCEPTED
+    Ok(())
 }

@@ -1,17 +1,9 @@
 -- Laws of the words before a stamp: so many of them end before it. Assumes nothing.
-use mathlib.Core.Path.{◌≡◌, sym}
 use Prim.Native.Nat.{ℕ, ◌+◌, ◌-◌, ◌*◌, ◌≤◌, ◌<◌}
-use native.Mathlib.Nat.{le-div_iff_mul-le, mul-le-mul, zero-div}
+use native.Mathlib.Nat.{le-div_iff_mul-le, mul-le-mul}
 use native.Mathlib.Omega.{arith}
-use Rattle.laws.proofs.Tests.{by-eq, on-ne}
+use Rattle.laws.proofs.Tests.{by-eq}
 use Rattle.bus_writes.specs.Due.{words_before}
-
--- a stamp that is not after the start
-pub none_before : (start cycles stamp : ℕ) → (cycles ≡ 0 → ⊥) → stamp ≤ start → 0 ≡ words_before start cycles stamp
-unfolding words_before
-none_before start cycles stamp some h =
-    let none : stamp - 1 - start ≡ 0 = omega arith in
-    on-ne cycles 0 0 0 _ some (rw none (sym (zero-div cycles)))
 
 -- as many words as there are before a stamp end before it
 pub before-ends : (start cycles stamp n : ℕ) → 0 < n → n ≤ words_before start cycles stamp → start + n * cycles < stamp

@@ -19,14 +19,10 @@ pub fn is_due(write: BusWrite, end: u64) -> bool
 }
 
 // How many words of so many cycles, the first one at `start`, end before a stamp. None of no cycles.
+#[tactic(auto, unfolding(crate::specs::Due::words_before))]
 pub fn words_before(start: u64, cycles: u64, stamp: u64) -> u64
     ensures { result ≡ words_before start cycles stamp }
 {
-    if cycles == 0 {
-        return 0;
-    }
-    if stamp <= start {
-        return 0;
-    }
-    (stamp - 1 - start) / cycles
+    let span = stamp.saturating_sub(1).saturating_sub(start);
+    span.checked_div(cycles).unwrap_or(0)
 }

@@ -39,7 +39,7 @@ pub fn block<'t, 'o>(
     ensures buffer { out.new ≡ buffer_left ok out.old
         (chip_with (core_of core) (ring stamps.now registers.now values.now head count)) }
 {
-    let held = c_record::core_of(core);
+    let held = Core::from(core);
     let r = steps_blocks::block(stamps, registers, values, out, ok, held, head, count);
     let answer = r.answer;
     let after = left(answer.no, core, r.core);
@@ -59,5 +59,5 @@ fn left(no: u8, before: RecordCore, after: Core) -> RecordCore
     if no != refusals::ACCEPTED {
         return before;
     }
-    c_record::record_core(after)
+    RecordCore::from(after)
 }

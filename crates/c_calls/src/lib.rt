@@ -8,10 +8,11 @@ ghost use Rattle.calls_making.specs.Making.{reset_call};
 
 use c_record::Record;
 use c_told::Told;
+use chip::Chip;
 
 pub fn reset(chip: Record) -> Told
     ensures { result ≡ on_record reset_call chip }
 {
-    let held = c_record::chip_of(chip);
+    let held = Chip::from(chip);
     c_told::tell(chip, calls_making::reset(held))
 }

@@ -8,7 +8,6 @@ use Rattle.clocking_block.specs.Block.{chip_with}
 use Rattle.steps_blocks.specs.declared.BlockStep.{BlockStep}
 use Rattle.steps_blocks.specs.BlockSteps.{block_step, refused_block}
 use Rattle.steps_blocks.proofs.Cases.{refused-keeps}
-use Rattle.calls_words.specs.Blocks.{blocked}
 use Rattle.calls_words.proofs.Blocking.{blocked_by, stored_block, blocked-by}
 use Rattle.c_record.specs.declared.Record.{Record}
 use Rattle.c_record.specs.Record.{chip_of, core_of, record_core, record_of}

@@ -18,23 +18,25 @@ use Rattle.c_record.specs.declared.Record.{Record}
 use Rattle.c_record.specs.Record.{chip_of, core_of, record_core}
 use Rattle.c_told.specs.Told.{lent_back, told}
 use Rattle.c_calls.specs.Calls.{on_record}
-use Rattle.c_steps.specs.declared.RecordQueued.{RecordQueued}
+use Rattle.c_steps.specs.declared.RecordStep.{RecordStep}
 use Rattle.c_steps.specs.RecordSteps.{record_queued, settled}
+use Rattle.c_interface.specs.Parts.{drums_in}
 
-abbrev pub stored : Record → RecordQueued → Record
-stored x p =
+abbrev pub stored : Record → RecordStep PortQueued → Record
+stored x r =
+    let p = r.step in
     record {
       core = record x.core {
-        a = record x.core.a { drum = p.a };
-        b = record x.core.b { drum = p.b };
-        c = record x.core.c { drum = p.c };
+        a = record x.core.a { drum = r.drums.a };
+        b = record x.core.b { drum = r.drums.b };
+        c = record x.core.c { drum = r.drums.c };
         selected = p.selected;
       };
       queue = put_ring p.at p.count (record { stamp = p.stamp; register = p.register; value = p.value }) x.queue;
     }
 
-abbrev settled_of : Record → PortQueued → RecordQueued
-settled_of x p = record_queued x.core.a.drum x.core.b.drum x.core.c.drum p
+abbrev settled_of : Record → PortQueued → RecordStep PortQueued
+settled_of x p = record_queued (drums_in x) p
 
 -- the step and the call, by the record's test, the port's bit, and whether 256 wait
 abbrev unqueued : Record → ℕ → ℕ → ℕ → PortQueued
@@ -72,12 +74,12 @@ port-chip true false true x v = ap (ringed x) (ring-kept (stamped v (chip_of x))
 port-chip true false false x v = ap (ringed (told x (answers_port true false false x v)).chip) (ring-pushed (stamped v (chip_of x)) x.queue)
 port-chip false clear full x v = ap (ringed x) (ring-kept (stamped v (chip_of x)) x.queue)
 
-abbrev pub queued_by : ℕ → ℕ → Record → RecordQueued
+abbrev pub queued_by : ℕ → ℕ → Record → RecordStep PortQueued
 queued_by port value x =
-    record_queued x.core.a.drum x.core.b.drum x.core.c.drum
+    record_queued (drums_in x)
     (port_queued (chip_in (chip_of x)) x.core.selected x.core.stamp x.queue.head x.queue.count port value)
 
-pub port-told : (port value : ℕ) (x : Record) → (queued_by port value x).no ≡ (on_record (write_port port value) x).no
+pub port-told : (port value : ℕ) (x : Record) → (queued_by port value x).step.no ≡ (on_record (write_port port value) x).no
 unfolding write_port push port_queued core_of
 port-told port value x = port-no (chip_in (chip_of x)) (bit1_clear port) (leb 256 x.queue.count) x value
 

@@ -8,7 +8,6 @@ use Rattle.steps_words.specs.declared.WordStep.{WordStep}
 use Rattle.steps_words.specs.WordSteps.{chip_at, refused_word, word_step}
 use Rattle.steps_words.proofs.Cases.{refused-keeps}
 use Rattle.steps_words.proofs.Playable.{parts}
-use Rattle.calls_words.specs.Blocks.{sampled}
 use Rattle.calls_words.proofs.Sampling.{sampled_by, sampled-by, stored as chip_stored}
 use Rattle.c_record.specs.declared.Record.{Record}
 use Rattle.c_record.specs.Record.{chip_of, core_of, record_channel, record_core, record_of}

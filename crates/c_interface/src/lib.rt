@@ -17,9 +17,11 @@ ghost use Rattle.calls_cycles.specs.Cycles.{cpu_cycle, flushed_pending_writes, p
 ghost use Rattle.calls_effects.specs.Effects.{set_timer_irq_state, trigger_envelope};
 ghost use Rattle.calls_channels.specs.ChannelCalls.{get_channel_outputs, is_channel_muted, set_channel_mute, set_drum_sample_override};
 ghost use Rattle.calls_words.specs.Blocks.{block_buffer};
+ghost use Rattle.c_interface.specs.Parts.{drums_in, mutes_in, with_drums};
 
 use answers::{Byte, Bytes, Count, Counts, Cycle, Flag, Outputs, Played, Sample, Wrote};
 use c_record::{Record, RecordDrum, Registers};
+use steps_channels::Three;
 
 // A default chip.
 pub fn ym2149_new(chip: &mut Record) -> u8
@@ -66,20 +68,10 @@ pub fn ym2149_write_register(chip: &mut Record, register: u8, value: u8) -> Wrot
     ensures left { chip.new ≡ (write_on (wrote_register register value) chip.old).chip }
 {
     let ok = lent_record::in_range(&*chip);
-    let written = c_steps::write_register(
-        ok,
-        chip.core.a.drum,
-        chip.core.b.drum,
-        chip.core.c.drum,
-        chip.core.voice,
-        register,
-        value,
-    );
-    chip.core.a.drum = written.a;
-    chip.core.b.drum = written.b;
-    chip.core.c.drum = written.c;
-    chip.core.voice = written.voice;
-    written.answer
+    let written = c_steps::write_register(ok, lent_drums(&*chip), chip.core.voice, register, value);
+    keep_drums(chip, written.drums);
+    chip.core.voice = written.step.voice;
+    written.step.answer
 }
 
 #[tactic(auto, unfolding(calls_registers::specs::Stored::loaded_registers, calls_registers::specs::Stored::load_registers, steps_voice::specs::VoiceSteps::voiced_all, c_record::specs::Record::core_of, c_record::specs::Record::record_core, c_told::specs::Told::lent_back, c_steps::specs::RecordSteps::settled))]
@@ -88,19 +80,10 @@ pub fn ym2149_load_registers(chip: &mut Record, registers: Registers) -> Counts
     ensures left { chip.new ≡ (apply_on (loaded_registers registers.bytes) chip.old).chip }
 {
     let ok = lent_record::in_range(&*chip);
-    let loaded = c_steps::load_registers(
-        ok,
-        chip.core.a.drum,
-        chip.core.b.drum,
-        chip.core.c.drum,
-        chip.core.voice,
-        registers,
-    );
-    chip.core.a.drum = loaded.a;
-    chip.core.b.drum = loaded.b;
-    chip.core.c.drum = loaded.c;
-    chip.core.voice = loaded.voice;
-    loaded.answer
+    let loaded = c_steps::load_registers(ok, lent_drums(&*chip), chip.core.voice, registers);
+    keep_drums(chip, loaded.drums);
+    chip.core.voice = loaded.step.voice;
+    loaded.step.answer
 }
 
 pub fn ym2149_write_port(chip: &mut Record, port: u8, value: u8) -> u8
@@ -110,9 +93,7 @@ pub fn ym2149_write_port(chip: &mut Record, port: u8, value: u8) -> u8
     let ok = lent_record::in_range(&*chip);
     let queued = c_steps::write_port(
         ok,
-        chip.core.a.drum,
-        chip.core.b.drum,
-        chip.core.c.drum,
+        lent_drums(&*chip),
         chip.core.selected,
         chip.core.stamp,
         chip.queue.head,
@@ -120,15 +101,14 @@ pub fn ym2149_write_port(chip: &mut Record, port: u8, value: u8) -> u8
         port,
         value,
     );
-    chip.core.a.drum = queued.a;
-    chip.core.b.drum = queued.b;
-    chip.core.c.drum = queued.c;
-    chip.core.selected = queued.selected;
-    chip.queue.count = queued.count;
-    queue_slot::put_stamp(&mut chip.queue.stamps, queued.at, queued.stamp);
-    queue_slot::put_byte(&mut chip.queue.registers, queued.at, queued.register);
-    queue_slot::put_byte(&mut chip.queue.values, queued.at, queued.value);
-    queued.no
+    keep_drums(chip, queued.drums);
+    let slot = queued.step;
+    chip.core.selected = slot.selected;
+    chip.queue.count = slot.count;
+    queue_slot::put(&mut chip.queue.stamps, slot.at, slot.stamp);
+    queue_slot::put(&mut chip.queue.registers, slot.at, slot.register);
+    queue_slot::put(&mut chip.queue.values, slot.at, slot.value);
+    slot.no
 }
 
 #[tactic(auto, unfolding(calls_ports::specs::Ports::wrote_port_immediate, calls_ports::specs::Ports::write_port_immediate, steps_voice::specs::VoiceSteps::port_written, c_record::specs::Record::core_of, c_record::specs::Record::record_core, c_told::specs::Told::lent_back, c_steps::specs::RecordSteps::settled))]
@@ -139,20 +119,16 @@ pub fn ym2149_write_port_immediate(chip: &mut Record, port: u8, value: u8) -> Wr
     let ok = lent_record::in_range(&*chip);
     let port_written = c_steps::write_port_immediate(
         ok,
-        chip.core.a.drum,
-        chip.core.b.drum,
-        chip.core.c.drum,
+        lent_drums(&*chip),
         chip.core.voice,
         chip.core.selected,
         port,
         value,
     );
-    chip.core.a.drum = port_written.a;
-    chip.core.b.drum = port_written.b;
-    chip.core.c.drum = port_written.c;
-    chip.core.voice = port_written.voice;
-    chip.core.selected = port_written.selected;
-    port_written.answer
+    keep_drums(chip, port_written.drums);
+    chip.core.voice = port_written.step.voice;
+    chip.core.selected = port_written.step.selected;
+    port_written.step.answer
 }
 
 #[tactic(auto, unfolding(calls_cycles::specs::Cycles::set_cpu_cycle, steps_cycles::specs::CycleSteps::stamp_set, c_record::specs::Record::core_of, c_record::specs::Record::record_core, c_told::specs::Told::lent_back, c_steps::specs::RecordSteps::settled))]
@@ -161,19 +137,10 @@ pub fn ym2149_set_cpu_cycle(chip: &mut Record, cycle: u64) -> u8
     ensures left { chip.new ≡ (on_record (set_cpu_cycle cycle) chip.old).chip }
 {
     let ok = lent_record::in_range(&*chip);
-    let r = c_steps::set_cpu_cycle(
-        ok,
-        chip.core.a.drum,
-        chip.core.b.drum,
-        chip.core.c.drum,
-        chip.core.stamp,
-        cycle,
-    );
-    chip.core.a.drum = r.a;
-    chip.core.b.drum = r.b;
-    chip.core.c.drum = r.c;
-    chip.core.stamp = r.stamp;
-    r.no
+    let r = c_steps::set_cpu_cycle(ok, lent_drums(&*chip), chip.core.stamp, cycle);
+    keep_drums(chip, r.drums);
+    chip.core.stamp = r.step.stamp;
+    r.step.no
 }
 
 #[tactic(auto, unfolding(calls_cycles::specs::Cycles::sync_sample_cycle, steps_cycles::specs::CycleSteps::both_set, c_record::specs::Record::core_of, c_record::specs::Record::record_core, c_told::specs::Told::lent_back, c_steps::specs::RecordSteps::settled))]
@@ -184,19 +151,15 @@ pub fn ym2149_sync_sample_cycle(chip: &mut Record, cycle: u64) -> u8
     let ok = lent_record::in_range(&*chip);
     let both = c_steps::sync_sample_cycle(
         ok,
-        chip.core.a.drum,
-        chip.core.b.drum,
-        chip.core.c.drum,
+        lent_drums(&*chip),
         chip.core.stamp,
         chip.core.start,
         cycle,
     );
-    chip.core.a.drum = both.a;
-    chip.core.b.drum = both.b;
-    chip.core.c.drum = both.c;
-    chip.core.stamp = both.stamp;
-    chip.core.start = both.start;
-    both.no
+    keep_drums(chip, both.drums);
+    chip.core.stamp = both.step.stamp;
+    chip.core.start = both.step.start;
+    both.step.no
 }
 
 pub fn ym2149_flush_pending_writes(chip: &mut Record) -> Counts
@@ -209,20 +172,16 @@ pub fn ym2149_flush_pending_writes(chip: &mut Record) -> Counts
         &chip.queue.registers,
         &chip.queue.values,
         ok,
-        chip.core.a.drum,
-        chip.core.b.drum,
-        chip.core.c.drum,
+        lent_drums(&*chip),
         chip.core.voice,
         chip.queue.head,
         chip.queue.count,
     );
-    chip.core.a.drum = flushed.a;
-    chip.core.b.drum = flushed.b;
-    chip.core.c.drum = flushed.c;
-    chip.core.voice = flushed.voice;
-    chip.queue.head = flushed.head;
-    chip.queue.count = flushed.count;
-    flushed.answer
+    keep_drums(chip, flushed.drums);
+    chip.core.voice = flushed.step.voice;
+    chip.queue.head = flushed.step.head;
+    chip.queue.count = flushed.step.count;
+    flushed.step.answer
 }
 
 #[tactic(auto, unfolding(calls_effects::specs::Effects::set_timer_irq_state, calls_effects::specs::Effects::irq_set, steps_effects::specs::EffectSteps::flag_set, c_record::specs::Record::core_of, c_record::specs::Record::record_core, c_told::specs::Told::lent_back, c_steps::specs::RecordSteps::settled))]
@@ -233,42 +192,22 @@ pub fn ym2149_set_timer_irq_state(chip: &mut Record, on: bool) -> u8
     let ok = lent_record::in_range(&*chip);
     let flagged = c_steps::set_timer_irq_state(
         ok,
-        chip.core.a.drum,
-        chip.core.b.drum,
-        chip.core.c.drum,
+        lent_drums(&*chip),
         chip.core.voice.generators,
         chip.core.voice.irq,
         on,
     );
-    chip.core.a.drum = flagged.a;
-    chip.core.b.drum = flagged.b;
-    chip.core.c.drum = flagged.c;
-    chip.core.voice.generators = flagged.generators;
-    chip.core.voice.irq = flagged.irq;
-    flagged.no
+    keep_drums(chip, flagged.drums);
+    chip.core.voice.generators = flagged.step.generators;
+    chip.core.voice.irq = flagged.step.irq;
+    flagged.step.no
 }
 
-#[tactic(auto, unfolding(calls_effects::specs::Effects::set_timer_irq_state, calls_effects::specs::Effects::irq_set, steps_effects::specs::EffectSteps::flag_set, c_record::specs::Record::core_of, c_record::specs::Record::record_core, c_told::specs::Told::lent_back, c_steps::specs::RecordSteps::settled))]
 pub fn ym2149_inside_timer_irq(chip: &mut Record, inside: bool) -> u8
     ensures answer { result ≡ (on_record (set_timer_irq_state inside) chip.old).no }
     ensures left { chip.new ≡ (on_record (set_timer_irq_state inside) chip.old).chip }
 {
-    let ok = lent_record::in_range(&*chip);
-    let flagged = c_steps::set_timer_irq_state(
-        ok,
-        chip.core.a.drum,
-        chip.core.b.drum,
-        chip.core.c.drum,
-        chip.core.voice.generators,
-        chip.core.voice.irq,
-        inside,
-    );
-    chip.core.a.drum = flagged.a;
-    chip.core.b.drum = flagged.b;
-    chip.core.c.drum = flagged.c;
-    chip.core.voice.generators = flagged.generators;
-    chip.core.voice.irq = flagged.irq;
-    flagged.no
+    ym2149_set_timer_irq_state(chip, inside)
 }
 
 #[tactic(auto, unfolding(calls_effects::specs::Effects::trigger_envelope, steps_effects::specs::EffectSteps::trigger_set, c_record::specs::Record::core_of, c_record::specs::Record::record_core, c_told::specs::Told::lent_back, c_steps::specs::RecordSteps::settled))]
@@ -279,16 +218,12 @@ pub fn ym2149_trigger_envelope(chip: &mut Record) -> u8
     let ok = lent_record::in_range(&*chip);
     let triggered = c_steps::trigger_envelope(
         ok,
-        chip.core.a.drum,
-        chip.core.b.drum,
-        chip.core.c.drum,
+        lent_drums(&*chip),
         chip.core.voice.generators.envelope,
     );
-    chip.core.a.drum = triggered.a;
-    chip.core.b.drum = triggered.b;
-    chip.core.c.drum = triggered.c;
-    chip.core.voice.generators.envelope = triggered.envelope;
-    triggered.no
+    keep_drums(chip, triggered.drums);
+    chip.core.voice.generators.envelope = triggered.step.envelope;
+    triggered.step.no
 }
 
 pub fn ym2149_set_channel_mute(chip: &mut Record, channel: usize, muted: bool) -> u8
@@ -296,24 +231,12 @@ pub fn ym2149_set_channel_mute(chip: &mut Record, channel: usize, muted: bool) -
     ensures left { chip.new ≡ (on_record (set_channel_mute channel muted) chip.old).chip }
 {
     let ok = lent_record::in_range(&*chip);
-    let mutes = c_steps::set_channel_mute(
-        ok,
-        chip.core.a.drum,
-        chip.core.b.drum,
-        chip.core.c.drum,
-        chip.core.a.muted,
-        chip.core.b.muted,
-        chip.core.c.muted,
-        channel,
-        muted,
-    );
-    chip.core.a.drum = mutes.a;
-    chip.core.b.drum = mutes.b;
-    chip.core.c.drum = mutes.c;
-    chip.core.a.muted = mutes.mutea;
-    chip.core.b.muted = mutes.muteb;
-    chip.core.c.muted = mutes.mutec;
-    mutes.no
+    let set = c_steps::set_channel_mute(ok, lent_drums(&*chip), lent_mutes(&*chip), channel, muted);
+    keep_drums(chip, set.drums);
+    chip.core.a.muted = set.step.values.a;
+    chip.core.b.muted = set.step.values.b;
+    chip.core.c.muted = set.step.values.c;
+    set.step.no
 }
 
 pub fn ym2149_set_drum_sample_override(chip: &mut Record, channel: usize, drum: RecordDrum) -> u8
@@ -321,18 +244,9 @@ pub fn ym2149_set_drum_sample_override(chip: &mut Record, channel: usize, drum: 
     ensures left { chip.new ≡ (on_record (set_drum_sample_override channel (drum_of drum)) chip.old).chip }
 {
     let ok = lent_record::in_range(&*chip);
-    let drums = c_steps::set_drum_sample_override(
-        ok,
-        chip.core.a.drum,
-        chip.core.b.drum,
-        chip.core.c.drum,
-        channel,
-        drum,
-    );
-    chip.core.a.drum = drums.a;
-    chip.core.b.drum = drums.b;
-    chip.core.c.drum = drums.c;
-    drums.no
+    let set = c_steps::set_drum_sample_override(ok, lent_drums(&*chip), channel, drum);
+    keep_drums(chip, set.values);
+    set.no
 }
 
 pub fn ym2149_compute_next_sample(chip: &mut Record) -> Sample
@@ -433,13 +347,7 @@ pub fn ym2149_is_channel_muted(chip: &Record, channel: usize) -> Flag
     ensures { result ≡ is_channel_muted channel (chip_of chip.now) }
 {
     let ok = lent_record::in_range(chip);
-    steps_channels::is_channel_muted(
-        ok,
-        chip.core.a.muted,
-        chip.core.b.muted,
-        chip.core.c.muted,
-        channel,
-    )
+    steps_channels::is_channel_muted(ok, lent_mutes(chip), channel)
 }
 
 #[tactic(auto, unfolding(calls_channels::specs::ChannelCalls::get_channel_outputs, steps_channels::specs::ChannelSteps::outputs_said, c_record::specs::Record::core_of))]
@@ -447,10 +355,39 @@ pub fn ym2149_get_channel_outputs(chip: &Record) -> Outputs
     ensures { result ≡ get_channel_outputs (chip_of chip.now) }
 {
     let ok = lent_record::in_range(chip);
-    steps_channels::get_channel_outputs(
-        ok,
-        chip.core.a.output,
-        chip.core.b.output,
-        chip.core.c.output,
-    )
+    let outputs = Three {
+        a: chip.core.a.output,
+        b: chip.core.b.output,
+        c: chip.core.c.output,
+    };
+    steps_channels::get_channel_outputs(ok, outputs)
+}
+
+// The three drums to store: an accepted call leaves one that is off at level 0.
+fn keep_drums(chip: &mut Record, drums: Three<RecordDrum>)
+    ensures { chip.new ≡ with_drums drums chip.old }
+{
+    chip.core.a.drum = drums.a;
+    chip.core.b.drum = drums.b;
+    chip.core.c.drum = drums.c;
+}
+
+fn lent_drums(chip: &Record) -> Three<RecordDrum>
+    ensures { result ≡ drums_in chip.now }
+{
+    Three {
+        a: chip.core.a.drum,
+        b: chip.core.b.drum,
+        c: chip.core.c.drum,
+    }
+}
+
+fn lent_mutes(chip: &Record) -> Three<bool>
+    ensures { result ≡ mutes_in chip.now }
+{
+    Three {
+        a: chip.core.a.muted,
+        b: chip.core.b.muted,
+        c: chip.core.c.muted,
+    }
 }

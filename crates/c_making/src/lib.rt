@@ -8,12 +8,13 @@ ghost use Rattle.refusals.specs.Numbers.{accepted};
 ghost use Rattle.c_making.specs.Making.{new_record};
 
 use answers::Answered;
+use c_record::Record;
 use c_told::Told;
 
 pub fn new() -> Told
     ensures { result ≡ new_record (answered accepted fresh) }
 {
-    let chip = c_record::record_of(calls_making::new());
+    let chip = Record::from(calls_making::new());
     Told {
         chip,
         no: refusals::ACCEPTED,
@@ -38,6 +39,6 @@ fn in_record(made: Answered) -> Told
     ensures { result ≡ new_record made }
 {
     let no = made.no;
-    let chip = c_record::record_of(made.chip);
+    let chip = Record::from(made.chip);
     Told { chip, no }
 }

@@ -7,21 +7,11 @@ ghost use Rattle.queue.specs.Waiting.{QueueInRange, ring};
 ghost use Rattle.steps_queue.specs.QueueSteps.{flush_step};
 ghost use Rattle.c_queue.specs.RecordQueue.{record_flushed};
 
-use answers::Counts;
 use c_record::RecordDrum;
+use c_steps::RecordStep;
 use registers::Voice;
-
-// The drums, the voice, the ring's place and its count to store, and the call's answer.
-#[derive(Clone, Copy)]
-pub struct RecordFlushed {
-    pub a: RecordDrum,
-    pub b: RecordDrum,
-    pub c: RecordDrum,
-    pub voice: Voice,
-    pub head: usize,
-    pub count: usize,
-    pub answer: Counts,
-}
+use steps_channels::Three;
+use steps_queue::FlushStep;
 
 // The step of `steps_queue`; the ring is lent where it lies.
 pub fn flush_pending_writes<'t>(
@@ -29,26 +19,14 @@ pub fn flush_pending_writes<'t>(
     registers: &'t [u8; 256],
     values: &'t [u8; 256],
     ok: bool,
-    a: RecordDrum,
-    b: RecordDrum,
-    c: RecordDrum,
+    drums: Three<RecordDrum>,
     voice: Voice,
     head: usize,
     count: usize,
-) -> RecordFlushed
+) -> RecordStep<FlushStep>
     requires { ok ≡ true → QueueInRange (ring stamps.now registers.now values.now head count) }
-    ensures { result ≡ record_flushed a b c (flush_step ok voice (ring stamps.now registers.now values.now head count)) }
+    ensures { result ≡ record_flushed drums (flush_step ok voice (ring stamps.now registers.now values.now head count)) }
 {
-    let r = steps_queue::flush_pending_writes(stamps, registers, values, ok, voice, head, count);
-    let after = r.voice;
-    let answer = r.answer;
-    RecordFlushed {
-        a: c_steps::settled(answer.no, a),
-        b: c_steps::settled(answer.no, b),
-        c: c_steps::settled(answer.no, c),
-        voice: after,
-        head: r.head,
-        count: r.count,
-        answer,
-    }
+    let step = steps_queue::flush_pending_writes(stamps, registers, values, ok, voice, head, count);
+    c_steps::recorded(step.answer.no, drums, step)
 }

@@ -56,112 +56,128 @@ pub struct Registers {
     pub bytes: [u8; 16],
 }
 
-pub fn chip_of(lent: Record) -> Chip
-    ensures { result ≡ chip_of lent }
-{
-    let core = core_of(lent.core);
-    let queue = lent.queue;
-    Chip { core, queue }
-}
+impl From<Record> for Chip {
+    ghost from_gives = { λ lent r. r ≡ chip_of lent };
 
-pub fn record_of(chip: Chip) -> Record
-    ensures { result ≡ record_of chip }
-{
-    let core = record_core(chip.core);
-    let queue = chip.queue;
-    Record { core, queue }
-}
-
-#[tactic(auto, unfolding(crate::specs::Record::drum_of))]
-pub fn drum_of(drum: RecordDrum) -> Drum
-    ensures { result ≡ drum_of drum }
-{
-    if drum.on {
-        return Drum::Sample(drum.sample);
-    }
-    Drum::Off
-}
-
-#[tactic(auto, unfolding(crate::specs::Record::core_of))]
-pub fn core_of(core: RecordCore) -> Core
-    ensures { result ≡ core_of core }
-{
-    let clocks = core.clocks;
-    let voice = core.voice;
-    let a = channel_of(core.a);
-    let b = channel_of(core.b);
-    let c = channel_of(core.c);
-    let channels = Channels { a, b, c };
-    Core {
-        clocks,
-        voice,
-        channels,
-        selected: core.selected,
-        variant: core.variant,
-        accumulator: core.accumulator,
-        stamp: core.stamp,
-        start: core.start,
+    fn from(lent: Record) -> Chip {
+        let core = Core::from(lent.core);
+        let queue = lent.queue;
+        Chip { core, queue }
     }
 }
 
-#[tactic(auto, unfolding(crate::specs::Record::record_core))]
-pub fn record_core(core: Core) -> RecordCore
-    ensures { result ≡ record_core core }
-{
-    let clocks = core.clocks;
-    let voice = core.voice;
-    let channels = core.channels;
-    let a = record_channel(channels.a);
-    let b = record_channel(channels.b);
-    let c = record_channel(channels.c);
-    RecordCore {
-        clocks,
-        voice,
-        a,
-        b,
-        c,
-        selected: core.selected,
-        variant: core.variant,
-        accumulator: core.accumulator,
-        stamp: core.stamp,
-        start: core.start,
+impl From<Chip> for Record {
+    ghost from_gives = { λ chip r. r ≡ record_of chip };
+
+    fn from(chip: Chip) -> Record {
+        let core = RecordCore::from(chip.core);
+        let queue = chip.queue;
+        Record { core, queue }
     }
 }
 
-pub fn channel_of(channel: RecordChannel) -> Channel
-    ensures { result ≡ channel_of channel }
-{
-    let drum = drum_of(channel.drum);
-    Channel {
-        muted: channel.muted,
-        drum,
-        output: channel.output,
-        amplitude: channel.amplitude,
+impl From<RecordDrum> for Drum {
+    ghost from_gives = { λ drum r. r ≡ drum_of drum };
+
+    #[tactic(auto, unfolding(crate::specs::Record::drum_of))]
+    fn from(drum: RecordDrum) -> Drum {
+        if drum.on {
+            return Drum::Sample(drum.sample);
+        }
+        Drum::Off
     }
 }
 
-pub fn record_channel(channel: Channel) -> RecordChannel
-    ensures { result ≡ record_channel channel }
-{
-    let held = channel.drum;
-    let drum = record_drum(held);
-    RecordChannel {
-        muted: channel.muted,
-        drum,
-        output: channel.output,
-        amplitude: channel.amplitude,
+impl From<RecordCore> for Core {
+    ghost from_gives = { λ core r. r ≡ core_of core };
+
+    #[tactic(auto, unfolding(crate::specs::Record::core_of))]
+    fn from(core: RecordCore) -> Core {
+        let clocks = core.clocks;
+        let voice = core.voice;
+        let a = Channel::from(core.a);
+        let b = Channel::from(core.b);
+        let c = Channel::from(core.c);
+        let channels = Channels { a, b, c };
+        Core {
+            clocks,
+            voice,
+            channels,
+            selected: core.selected,
+            variant: core.variant,
+            accumulator: core.accumulator,
+            stamp: core.stamp,
+            start: core.start,
+        }
     }
 }
 
-#[tactic(auto, unfolding(crate::specs::Record::record_drum))]
-pub fn record_drum(drum: Drum) -> RecordDrum
-    ensures { result ≡ record_drum drum }
-{
-    match drum {
-        Drum::Off => RecordDrum {
-            on: false,
-            sample: 0.0,
-        },
-        Drum::Sample(sample) => RecordDrum { on: true, sample },
+impl From<Core> for RecordCore {
+    ghost from_gives = { λ core r. r ≡ record_core core };
+
+    #[tactic(auto, unfolding(crate::specs::Record::record_core))]
+    fn from(core: Core) -> RecordCore {
+        let clocks = core.clocks;
+        let voice = core.voice;
+        let channels = core.channels;
+        let a = RecordChannel::from(channels.a);
+        let b = RecordChannel::from(channels.b);
+        let c = RecordChannel::from(channels.c);
+        RecordCore {
+            clocks,
+            voice,
+            a,
+            b,
+            c,
+            selected: core.selected,
+            variant: core.variant,
+            accumulator: core.accumulator,
+            stamp: core.stamp,
+            start: core.start,
+        }
+    }
+}
+
+impl From<RecordChannel> for Channel {
+    ghost from_gives = { λ channel r. r ≡ channel_of channel };
+
+    fn from(channel: RecordChannel) -> Channel {
+        let drum = Drum::from(channel.drum);
+        Channel {
+            muted: channel.muted,
+            drum,
+            output: channel.output,
+            amplitude: channel.amplitude,
+        }
+    }
+}
+
+impl From<Channel> for RecordChannel {
+    ghost from_gives = { λ channel r. r ≡ record_channel channel };
+
+    fn from(channel: Channel) -> RecordChannel {
+        let held = channel.drum;
+        let drum = RecordDrum::from(held);
+        RecordChannel {
+            muted: channel.muted,
+            drum,
+            output: channel.output,
+            amplitude: channel.amplitude,
+        }
+    }
+}
+
+impl From<Drum> for RecordDrum {
+    ghost from_gives = { λ drum r. r ≡ record_drum drum };
+
+    #[tactic(auto, unfolding(crate::specs::Record::record_drum))]
+    fn from(drum: Drum) -> RecordDrum {
+        match drum {
+            Drum::Off => RecordDrum {
+                on: false,
+                sample: 0.0,
+            },
+            Drum::Sample(sample) => RecordDrum { on: true, sample },
+        }
     }
 }

@@ -31,5 +31,5 @@ fn lent_back(lent: Record, no: u8, chip: Chip) -> Record
     if no != refusals::ACCEPTED {
         return lent;
     }
-    c_record::record_of(chip)
+    Record::from(chip)
 }

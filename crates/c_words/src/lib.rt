@@ -48,9 +48,9 @@ pub fn compute_next_sample<'t>(
     ensures { result ≡ record_word a b c (word_step ok (chip_at clocks variant voice (channels_of a b c) accumulator start (ring stamps.now registers.now values.now head count))) }
 {
     let channels = Channels {
-        a: c_record::channel_of(a),
-        b: c_record::channel_of(b),
-        c: c_record::channel_of(c),
+        a: Channel::from(a),
+        b: Channel::from(b),
+        c: Channel::from(c),
     };
     let r = steps_words::compute_next_sample(
         stamps,
@@ -90,5 +90,5 @@ fn left(no: u8, before: RecordChannel, after: Channel) -> RecordChannel
     if no != refusals::ACCEPTED {
         return before;
     }
-    c_record::record_channel(after)
+    RecordChannel::from(after)
 }

@@ -9,11 +9,12 @@ ghost use Rattle.calls_registers.specs.Stored.{dump_registers, loaded_registers,
 ghost use Rattle.calls_ports.specs.Ports.{read_port, write_port, wrote_port_immediate};
 ghost use Rattle.calls_cycles.specs.Cycles.{cpu_cycle, flushed_pending_writes, pending_write_count, set_cpu_cycle, sync_sample_cycle};
 ghost use Rattle.calls_effects.specs.Effects.{set_timer_irq_state, trigger_envelope};
-ghost use Rattle.calls_channels.specs.ChannelCalls.{get_channel_outputs, is_channel_muted, set_channel_mute, set_drum_sample_override};
+ghost use Rattle.calls_channels.specs.ChannelCalls.{get_channel_outputs, is_channel_muted, mutes_of, set_channel_mute, set_drum_sample_override};
 
 use answers::{Byte, Bytes, Count, Counts, Cycle, Flag, Outputs, Wrote};
 use channel::Drum;
 use chip::Chip;
+use steps_channels::Three;
 
 pub fn reset(chip: &mut Chip) -> u8
     ensures answer { result ≡ (reset_call chip.old).no }
@@ -62,9 +63,9 @@ pub fn write_port(chip: &mut Chip, port: u8, value: u8) -> u8
     );
     chip.core.selected = r.selected;
     chip.queue.count = r.count;
-    queue_slot::put_stamp(&mut chip.queue.stamps, r.at, r.stamp);
-    queue_slot::put_byte(&mut chip.queue.registers, r.at, r.register);
-    queue_slot::put_byte(&mut chip.queue.values, r.at, r.value);
+    queue_slot::put(&mut chip.queue.stamps, r.at, r.stamp);
+    queue_slot::put(&mut chip.queue.registers, r.at, r.register);
+    queue_slot::put(&mut chip.queue.values, r.at, r.value);
     r.no
 }
 
@@ -140,21 +141,11 @@ pub fn set_timer_irq_state(chip: &mut Chip, on: bool) -> u8
     r.no
 }
 
-#[tactic(auto, unfolding(calls_effects::specs::Effects::set_timer_irq_state, calls_effects::specs::Effects::irq_set, steps_effects::specs::EffectSteps::flag_set))]
 pub fn inside_timer_irq(chip: &mut Chip, inside: bool) -> u8
     ensures answer { result ≡ (set_timer_irq_state inside chip.old).no }
     ensures left { chip.new ≡ (set_timer_irq_state inside chip.old).chip }
 {
-    let ok = lent_chip::in_range(&*chip);
-    let r = steps_effects::set_timer_irq_state(
-        ok,
-        chip.core.voice.generators,
-        chip.core.voice.irq,
-        inside,
-    );
-    chip.core.voice.generators = r.generators;
-    chip.core.voice.irq = r.irq;
-    r.no
+    set_timer_irq_state(chip, inside)
 }
 
 #[tactic(auto, unfolding(calls_effects::specs::Effects::trigger_envelope, steps_effects::specs::EffectSteps::trigger_set))]
@@ -173,17 +164,10 @@ pub fn set_channel_mute(chip: &mut Chip, channel: usize, muted: bool) -> u8
     ensures left { chip.new ≡ (set_channel_mute channel muted chip.old).chip }
 {
     let ok = lent_chip::in_range(&*chip);
-    let set = steps_channels::set_channel_mute(
-        ok,
-        chip.core.channels.a.muted,
-        chip.core.channels.b.muted,
-        chip.core.channels.c.muted,
-        channel,
-        muted,
-    );
-    chip.core.channels.a.muted = set.a;
-    chip.core.channels.b.muted = set.b;
-    chip.core.channels.c.muted = set.c;
+    let set = steps_channels::set_channel_mute(ok, mutes(&*chip), channel, muted);
+    chip.core.channels.a.muted = set.values.a;
+    chip.core.channels.b.muted = set.values.b;
+    chip.core.channels.c.muted = set.values.c;
     set.no
 }
 
@@ -192,17 +176,15 @@ pub fn set_drum_sample_override(chip: &mut Chip, channel: usize, drum: Drum) -> 
     ensures left { chip.new ≡ (set_drum_sample_override channel drum chip.old).chip }
 {
     let ok = lent_chip::in_range(&*chip);
-    let set = steps_channels::set_drum_sample_override(
-        ok,
-        chip.core.channels.a.drum,
-        chip.core.channels.b.drum,
-        chip.core.channels.c.drum,
-        channel,
-        drum,
-    );
-    chip.core.channels.a.drum = set.a;
-    chip.core.channels.b.drum = set.b;
-    chip.core.channels.c.drum = set.c;
+    let drums = Three {
+        a: chip.core.channels.a.drum,
+        b: chip.core.channels.b.drum,
+        c: chip.core.channels.c.drum,
+    };
+    let set = steps_channels::set_drum_sample_override(ok, drums, channel, drum);
+    chip.core.channels.a.drum = set.values.a;
+    chip.core.channels.b.drum = set.values.b;
+    chip.core.channels.c.drum = set.values.c;
     set.no
 }
 
@@ -250,13 +232,7 @@ pub fn is_channel_muted(chip: &Chip, channel: usize) -> Flag
     ensures { result ≡ is_channel_muted channel chip.now }
 {
     let ok = lent_chip::in_range(chip);
-    steps_channels::is_channel_muted(
-        ok,
-        chip.core.channels.a.muted,
-        chip.core.channels.b.muted,
-        chip.core.channels.c.muted,
-        channel,
-    )
+    steps_channels::is_channel_muted(ok, mutes(chip), channel)
 }
 
 #[tactic(auto, unfolding(calls_channels::specs::ChannelCalls::get_channel_outputs, steps_channels::specs::ChannelSteps::outputs_said))]
@@ -264,10 +240,20 @@ pub fn get_channel_outputs(chip: &Chip) -> Outputs
     ensures { result ≡ get_channel_outputs chip.now }
 {
     let ok = lent_chip::in_range(chip);
-    steps_channels::get_channel_outputs(
-        ok,
-        chip.core.channels.a.output,
-        chip.core.channels.b.output,
-        chip.core.channels.c.output,
-    )
+    let outputs = Three {
+        a: chip.core.channels.a.output,
+        b: chip.core.channels.b.output,
+        c: chip.core.channels.c.output,
+    };
+    steps_channels::get_channel_outputs(ok, outputs)
+}
+
+fn mutes(chip: &Chip) -> Three<bool>
+    ensures { result ≡ mutes_of chip.now.core.channels }
+{
+    Three {
+        a: chip.core.channels.a.muted,
+        b: chip.core.channels.b.muted,
+        c: chip.core.channels.c.muted,
+    }
 }

@@ -16,10 +16,10 @@ use Rattle.chip.specs.Range.{chip_in}
 use Rattle.chip_parts.specs.Parts.{with_channels}
 use Rattle.answers.specs.Answers.{answered}
 use Rattle.answers.specs.declared.Answered.{Answered}
-use Rattle.steps_channels.specs.declared.Drummed.{Drummed}
-use Rattle.steps_channels.specs.declared.Muted.{Muted}
-use Rattle.steps_channels.specs.ChannelSteps.{channel_number, drums, drums_set, mutes, mutes_set}
-use Rattle.calls_channels.specs.ChannelCalls.{for_channel, set_channel_mute, set_drum_sample_override}
+use Rattle.steps_channels.specs.declared.Three.{Three}
+use Rattle.steps_channels.specs.declared.ThreeSet.{ThreeSet}
+use Rattle.steps_channels.specs.ChannelSteps.{channel_number, drums_set, mutes_set, one_set, put_one}
+use Rattle.calls_channels.specs.ChannelCalls.{for_channel, mutes_of, set_channel_mute, set_drum_sample_override}
 
 -- one channel of three changed: which, by whether its number is 0, and is 1
 abbrev pub one_of : Bool → Bool → (Channel → Channel) → Channels → Channels
@@ -69,44 +69,51 @@ drum-after n drum c = for-channel n (with_drum drum) c
 abbrev pub number : Bool → Bool → ℕ
 number ok three = cond ok (cond three no_such_channel accepted) out_of_range
 
-abbrev pub steps-mute : Bool → Bool → Bool → Bool → Bool → Channels → Muted
-steps-mute ok three zero one muted s =
+abbrev pub steps-one : {A : Type 0} → Bool → Bool → Bool → Bool → A → Three A → ThreeSet A
+steps-one ok three zero one x held =
     let n = number ok three in
-    cond (eqb n accepted)
-    (cond zero (mutes muted s.b.muted s.c.muted n) (cond one (mutes s.a.muted muted s.c.muted n) (mutes s.a.muted s.b.muted muted n)))
-    (mutes s.a.muted s.b.muted s.c.muted n)
+    record {
+      values = cond (eqb n accepted)
+          (cond zero (record { a = x; b = held.b; c = held.c })
+          (cond one (record { a = held.a; b = x; c = held.c })
+          (record { a = held.a; b = held.b; c = x })))
+          held;
+      no = n;
+    }
 
-abbrev pub with-mutes : Muted → Chip → Answered
-with-mutes r c = let s = c.core.channels in answered r.no (with_channels (record { a = with_mute r.a s.a; b = with_mute r.b s.b; c = with_mute r.c s.c }) c)
+abbrev pub with-mutes : ThreeSet Bool → Chip → Answered
+with-mutes r c =
+    let s = c.core.channels in
+    let m = r.values in
+    answered r.no (with_channels (record { a = with_mute m.a s.a; b = with_mute m.b s.b; c = with_mute m.c s.c }) c)
 
-mutes-same : (ok three zero one muted : Bool) (c : Chip) → with-mutes (steps-mute ok three zero one muted c.core.channels) c ≡ after ok three zero one (with_mute muted) c
+mutes-same : (ok three zero one muted : Bool) (c : Chip) → with-mutes (steps-one ok three zero one muted (mutes_of c.core.channels)) c ≡ after ok three zero one (with_mute muted) c
 mutes-same true true zero one muted c = refl
 mutes-same true false true one muted c = refl
 mutes-same true false false true muted c = refl
 mutes-same true false false false muted c = refl
 mutes-same false three zero one muted c = refl
 
-pub mutes-set : (n : ℕ) (muted : Bool) (c : Chip) → let s = c.core.channels in with-mutes (mutes_set (chip_in c) s.a.muted s.b.muted s.c.muted n muted) c ≡ set_channel_mute n muted c
-unfolding mutes_set channel_number
+pub mutes-set : (n : ℕ) (muted : Bool) (c : Chip) → with-mutes (mutes_set (chip_in c) (mutes_of c.core.channels) n muted) c ≡ set_channel_mute n muted c
+unfolding one_set put_one channel_number
 mutes-set n muted c = mutes-same (chip_in c) (leb 3 n) (eqb n 0) (eqb n 1) muted c ∙ sym (mute-after n muted c)
 
-abbrev pub steps-drum : Bool → Bool → Bool → Bool → Drum → Channels → Drummed
-steps-drum ok three zero one drum s =
-    let n = number ok three in
-    cond (eqb n accepted)
-    (cond zero (drums drum s.b.drum s.c.drum n) (cond one (drums s.a.drum drum s.c.drum n) (drums s.a.drum s.b.drum drum n)))
-    (drums s.a.drum s.b.drum s.c.drum n)
+abbrev pub drums_of : Channels → Three Drum
+drums_of s = record { a = s.a.drum; b = s.b.drum; c = s.c.drum }
 
-abbrev pub with-drums : Drummed → Chip → Answered
-with-drums r c = let s = c.core.channels in answered r.no (with_channels (record { a = with_drum r.a s.a; b = with_drum r.b s.b; c = with_drum r.c s.c }) c)
+abbrev pub with-drums : ThreeSet Drum → Chip → Answered
+with-drums r c =
+    let s = c.core.channels in
+    let d = r.values in
+    answered r.no (with_channels (record { a = with_drum d.a s.a; b = with_drum d.b s.b; c = with_drum d.c s.c }) c)
 
-drums-same : (ok three zero one : Bool) (drum : Drum) (c : Chip) → with-drums (steps-drum ok three zero one drum c.core.channels) c ≡ after ok three zero one (with_drum drum) c
+drums-same : (ok three zero one : Bool) (drum : Drum) (c : Chip) → with-drums (steps-one ok three zero one drum (drums_of c.core.channels)) c ≡ after ok three zero one (with_drum drum) c
 drums-same true true zero one drum c = refl
 drums-same true false true one drum c = refl
 drums-same true false false true drum c = refl
 drums-same true false false false drum c = refl
 drums-same false three zero one drum c = refl
 
-pub drums-set : (n : ℕ) (drum : Drum) (c : Chip) → let s = c.core.channels in with-drums (drums_set (chip_in c) s.a.drum s.b.drum s.c.drum n drum) c ≡ set_drum_sample_override n drum c
-unfolding drums_set channel_number
+pub drums-set : (n : ℕ) (drum : Drum) (c : Chip) → with-drums (drums_set (chip_in c) (drums_of c.core.channels) n drum) c ≡ set_drum_sample_override n drum c
+unfolding one_set put_one channel_number
 drums-set n drum c = drums-same (chip_in c) (leb 3 n) (eqb n 0) (eqb n 1) drum c ∙ sym (drum-after n drum c)

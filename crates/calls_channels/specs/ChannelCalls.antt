@@ -12,6 +12,7 @@ use Rattle.three_channels.specs.declared.Channels.{Channels}
 use Rattle.channel.specs.declared.Drum.{Drum}
 use Rattle.chip.specs.Range.{chip_in}
 use Rattle.refusals.specs.Numbers.{accepted, no_such_channel, out_of_range}
+use Rattle.steps_channels.specs.declared.Three.{Three}
 
 -- mute or drum for channel 3 or above: nothing changes
 abbrev pub for_channel : ℕ → Channels → Chip → Answered
@@ -34,3 +35,6 @@ get_channel_outputs c =
     let s = c.core.channels in
     cond (chip_in c) (record { no = accepted; a = s.a.output; b = s.b.output; c = s.c.output })
     (record { no = out_of_range; a = float 0; b = float 0; c = float 0 })
+
+abbrev pub mutes_of : Channels → Three Bool
+mutes_of s = record { a = s.a.muted; b = s.b.muted; c = s.c.muted }

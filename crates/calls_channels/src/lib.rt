@@ -2,11 +2,12 @@
 #![tactic(auto)]
 
 ghost use Rattle.std.specs.Prelude.{◌≡◌};
-ghost use Rattle.calls_channels.specs.ChannelCalls.{get_channel_outputs, is_channel_muted, set_channel_mute, set_drum_sample_override};
+ghost use Rattle.calls_channels.specs.ChannelCalls.{get_channel_outputs, is_channel_muted, mutes_of, set_channel_mute, set_drum_sample_override};
 
 use answers::{Answered, Flag, Outputs};
 use channel::Drum;
 use chip::Chip;
+use steps_channels::Three;
 use three_channels::Channels;
 
 pub fn set_channel_mute(chip: Chip, channel: usize, muted: bool) -> Answered
@@ -14,10 +15,10 @@ pub fn set_channel_mute(chip: Chip, channel: usize, muted: bool) -> Answered
 {
     let ok = chip::in_range(chip);
     let s = chip.core.channels;
-    let r = steps_channels::set_channel_mute(ok, s.a.muted, s.b.muted, s.c.muted, channel, muted);
-    let a = s.a.with_mute(r.a);
-    let b = s.b.with_mute(r.b);
-    let c = s.c.with_mute(r.c);
+    let r = steps_channels::set_channel_mute(ok, mutes(s), channel, muted);
+    let a = s.a.with_mute(r.values.a);
+    let b = s.b.with_mute(r.values.b);
+    let c = s.c.with_mute(r.values.c);
     let after = chip_parts::with_channels(chip, Channels { a, b, c });
     Answered {
         chip: after,
@@ -29,8 +30,7 @@ pub fn is_channel_muted(chip: Chip, channel: usize) -> Flag
     ensures { result ≡ is_channel_muted channel chip }
 {
     let ok = chip::in_range(chip);
-    let s = chip.core.channels;
-    steps_channels::is_channel_muted(ok, s.a.muted, s.b.muted, s.c.muted, channel)
+    steps_channels::is_channel_muted(ok, mutes(chip.core.channels), channel)
 }
 
 pub fn set_drum_sample_override(chip: Chip, channel: usize, drum: Drum) -> Answered
@@ -38,19 +38,15 @@ pub fn set_drum_sample_override(chip: Chip, channel: usize, drum: Drum) -> Answe
 {
     let ok = chip::in_range(chip);
     let s = chip.core.channels;
-    let first = s.a;
-    let second = s.b;
-    let third = s.c;
-    let a = first.drum;
-    let b = second.drum;
-    let c = third.drum;
-    let r = steps_channels::set_drum_sample_override(ok, a, b, c, channel, drum);
-    let a = r.a;
-    let b = r.b;
-    let c = r.c;
-    let a = first.with_drum(a);
-    let b = second.with_drum(b);
-    let c = third.with_drum(c);
+    let drums = Three {
+        a: s.a.drum,
+        b: s.b.drum,
+        c: s.c.drum,
+    };
+    let r = steps_channels::set_drum_sample_override(ok, drums, channel, drum);
+    let a = s.a.with_drum(r.values.a);
+    let b = s.b.with_drum(r.values.b);
+    let c = s.c.with_drum(r.values.c);
     let after = chip_parts::with_channels(chip, Channels { a, b, c });
     Answered {
         chip: after,
@@ -63,5 +59,20 @@ pub fn get_channel_outputs(chip: Chip) -> Outputs
 {
     let ok = chip::in_range(chip);
     let s = chip.core.channels;
-    steps_channels::get_channel_outputs(ok, s.a.output, s.b.output, s.c.output)
+    let outputs = Three {
+        a: s.a.output,
+        b: s.b.output,
+        c: s.c.output,
+    };
+    steps_channels::get_channel_outputs(ok, outputs)
+}
+
+fn mutes(s: Channels) -> Three<bool>
+    ensures { result ≡ mutes_of s }
+{
+    Three {
+        a: s.a.muted,
+        b: s.b.muted,
+        c: s.c.muted,
+    }
 }

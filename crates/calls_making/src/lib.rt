@@ -33,12 +33,13 @@ pub fn with_clocks(master: u32, rate: u32) -> Answered
 pub fn with_variant(master: u32, rate: u32, variant: u8) -> Answered
     ensures { result ≡ with_variant master rate variant }
 {
-    let no = variants::making_no(master, rate, variant);
-    if no != refusals::ACCEPTED {
-        let chip = new();
-        return Answered { chip, no };
+    match variants::accept_making(master, rate, variant) {
+        Ok(()) => answers::accepted(made(chip::clocks_of(master, rate), variant)),
+        Err(why) => Answered {
+            chip: new(),
+            no: why.number(),
+        },
     }
-    answers::accepted(made(chip::clocks_of(master, rate), variant))
 }
 
 // Not a new chip: the variant, noise and envelope periods, mutes and last amplitudes stay.

@@ -15,16 +15,17 @@ use Rattle.answers.specs.Answers.{answered}
 use Rattle.answers.specs.Reports.{applied, bytes_of, counts, written, wrote}
 use Rattle.answers.specs.declared.Applied.{Applied}
 use Rattle.answers.specs.declared.Written.{Written}
-use Rattle.steps_voice.specs.declared.Loaded.{Loaded}
+use Rattle.answers.specs.declared.Wrote.{Wrote}
+use Rattle.answers.specs.declared.Counts.{Counts}
 use Rattle.steps_voice.specs.declared.Voiced.{Voiced}
 use Rattle.steps_voice.specs.VoiceSteps.{voiced, voiced_all}
 use Rattle.calls_registers.specs.Stored.{loaded_registers, load_registers, write_register, wrote_register}
 
 -- the chip after a step, and the step's answer
-abbrev pub with-voiced : Voiced → Chip → Written
+abbrev pub with-voiced : Voiced Wrote → Chip → Written
 with-voiced r c = record { chip = with_voice r.voice c; answer = r.answer }
 
-abbrev pub with-loaded : Loaded → Chip → Applied
+abbrev pub with-loaded : Voiced Counts → Chip → Applied
 with-loaded r c = record { chip = with_voice r.voice c; answer = r.answer }
 
 write_same : (ok : Bool) (c : Chip) (w : Voice) (changed restarted : Bool)

@@ -1,31 +1,34 @@
 -- What callers lean on: an accepted capture's numbers are in range, and each of its writes has its form and its order. Assumes nothing.
-use mathlib.Core.Path.{◌≡◌, ◌∙◌, ap}
+use mathlib.Core.Path.{◌≡◌, refl, sym, ◌∙◌, ap}
 use mathlib.Core.List.{List}
 use Prim.Native.Nat.{ℕ, zero, suc, ◌+◌, ◌/◌, ◌≤◌, ◌<◌}
 use native.Mathlib.Omega.{arith}
 use borrow.Author.Tests.{le-ltb, ne_eqb}
 use lib.ListN.{length}
+use Rattle.std.specs.Prelude.{Result, Ok, Err}
 use Rattle.laws.proofs.Tests.{by-lt}
 use Rattle.refusals.specs.Numbers.{accepted}
 use Rattle.text_lines.specs.Bytes.{bytes}
 use Rattle.text_lines.specs.Lines.{line_at}
 use Rattle.text_entries.specs.Entries.{line_entry_at}
 use Rattle.text_entries.proofs.Ranges.{line-next}
-use Rattle.clocks.specs.Clocks.{clocks_no}
-use Rattle.dump_lines.specs.OneLine.{master_line_no, rate_line_no}
+use Rattle.clocks.specs.Clocks.{accept_clocks, clocks_no}
+use Rattle.dump_lines.specs.OneLine.{master_line, rate_line}
 use Rattle.dump_clocks.specs.Clocks.{clock_lines}
 use Rattle.dump_clocks.specs.declared.ClockLines.{ClockLines}
-use Rattle.dump_clocks.proofs.Paced.{Paced, accepted-paced}
-use Rattle.capture_lines.specs.OneLine.{writes_line_no, words_line_no}
+use Rattle.dump_clocks.specs.declared.LineRefused.{LineRefused}
+use Rattle.dump_clocks.proofs.Paced.{numbered, accepted-paced}
+use Rattle.capture_lines.specs.OneLine.{writes_line, words_line}
 use Rattle.capture_lines.proofs.Ranges.{writes-range, words-range}
 use Rattle.capture_writes.specs.Writes.{write_at, writes_from, place_from}
 use Rattle.capture_writes.proofs.Listed.{place-on}
-use Rattle.capture_writes.proofs.Ranged.{same_after, not_lower}
+use Rattle.capture_writes.proofs.Ranged.{same_after, not_lower, accepted-at}
+use Rattle.capture_writes.proofs.Steps.{by-step, by-line}
 use Rattle.capture_body.specs.Walk.{writes_read}
-use Rattle.capture_body.specs.declared.WritesRead.{WritesRead}
-use Rattle.capture.specs.Checked.{accepted_with, writes_checked, sized, capture_of}
+use Rattle.capture_body.proofs.Walking.{by-write}
+use Rattle.capture.specs.Checked.{Captured, told_capture, checked, capture_of}
 use Rattle.capture.specs.Rising.{Rising, line_from}
-use Rattle.capture.specs.declared.Captured.{Captured}
+use Rattle.capture.specs.declared.Capture.{Capture}
 
 pub record Laid (t : List ℕ) (r : Captured) : Type 0 where
   pub top : r.master ≤ 1073741823
@@ -57,67 +60,74 @@ module _ (t : List ℕ) where
       let s = same_after t before at e in
       record { write = one_more at k (rw s at e) (rw s at r.write); rising = rw (← s) (not_lower t before at e, r.rising) }
 
-  run : (k line before at : ℕ) → (writes_read t k line before at).no ≡ 0 → Run k before at
+  run : (k line before at : ℕ) {u : Unit {0}} → writes_read t k line before at ≡ Ok u → Run k before at
   unfolding writes_read writes_from
-  run zero line before at = λ e. record { write = λ f h. absurd (omega arith); rising = tt }
-  run (suc k) line before at =
-      let w = write_at t before at in
-      by-lt (λ (v : WritesRead). v.no ≡ 0 → Run (suc k) before at) 0 w.no (λ h e. absurd (omega arith))
-      (λ h e. run_on k before at (omega (arith, h)) (run k (line + 3) w.write.stamp w.next e))
-
-  -- a refusal's number is the one that its test found above 0
-  refused-not : {v : Captured} {n : ℕ} → 0 < n → n ≡ 0 → Laid t v
-  refused-not h e = absurd (omega arith)
-
-  -- writes that are accepted are so one after another
-  checked-laid : (good : Captured) → (Run good.writes 0 good.body → Laid t good) → (writes_checked t good).no ≡ 0 → Laid t (writes_checked t good)
-  unfolding writes_checked
-  checked-laid good f =
-      by-lt (λ (v : Captured). v.no ≡ 0 → Laid t v) 0 (writes_read t good.writes 5 0 good.body).no (λ h e. refused-not h e)
-      (λ h e. f (run good.writes 5 0 good.body (omega (arith, h))))
+  run zero line before at {u} = λ _. record { write = λ f h. absurd (omega arith); rising = tt }
+  run (suc k) line before at {u} =
+      by-write (λ (r : Result (Unit {0}) LineRefused). r ≡ Ok u → Run (suc k) before at) t line before at
+      (λ lines is e.
+      let w = accepted-at t before at lines is in
+      let more : Run k lines.write.stamp lines.next = run k (line + 3) lines.write.stamp lines.next e in
+      run_on k before at (rw w refl) (rw w more))
+      (λ one is e. cc)
 
   -- accepted clocks stand on two lines, so that line 4 is three lines on
-  fourth-at : (clock_lines t).no ≡ 0 → (clock_lines t).fourth ≡ line_from t 3 0
+  fourth-at : (k : ClockLines) → clock_lines t ≡ Ok k → k.fourth ≡ line_from t 3 0
   unfolding clock_lines
-  fourth-at =
+  fourth-at k =
       let one = line_entry_at (bytes "master=") t 0 in
       let two = line_entry_at (bytes "rate=") t one.next in
-      by-lt (λ (k : ClockLines). k.no ≡ 0 → k.fourth ≡ line_from t 3 0) 65536 (length t) (λ h e. absurd (omega arith))
-      (λ _. by-lt (λ (k : ClockLines). k.no ≡ 0 → k.fourth ≡ line_from t 3 0) 0 (master_line_no one) (λ h e. absurd (omega arith))
-      (λ _. by-lt (λ (k : ClockLines). k.no ≡ 0 → k.fourth ≡ line_from t 3 0) 0 (rate_line_no one.value two) (λ h e. absurd (omega arith))
-      (λ _ _. ap (λ (p : ℕ). (line_at t p).next) (line-next _ t one.next ∙ ap (λ (p : ℕ). (line_at t p).next) (line-next _ t 0)))))
+      let P = λ (r : Result ClockLines LineRefused). r ≡ Ok k → k.fourth ≡ line_from t 3 0 in
+      by-lt P 65536 (length t) (λ _ e. cc)
+      (λ _. by-line P (master_line one.value) 1
+      (λ master _. by-line P (rate_line master two.value) 2
+      (λ rate _ e.
+      let is : (line_at t two.next).next ≡ k.fourth = cc in
+      sym is ∙ ap (λ (p : ℕ). (line_at t p).next) (line-next _ t one.next ∙ ap (λ (p : ℕ). (line_at t p).next) (line-next _ t 0)))
+      (λ _ e. cc)) (λ _ e. cc))
 
-  sized-laid : (k : ClockLines) → Paced k → k.fourth ≡ line_from t 3 0 → (sized t k).no ≡ 0 → Laid t (sized t k)
-  unfolding sized
-  sized-laid k p q =
+  checked-laid : (c : Capture) → checked t ≡ Ok c → Laid t (told_capture (Ok c))
+  unfolding checked
+  checked-laid c =
+      let P = λ (r : Result Capture LineRefused). r ≡ Ok c → Laid t (told_capture (Ok c)) in
+      by-step P (clock_lines t)
+      (λ k q.
       let three = line_entry_at (bytes "writes=") t k.third in
       let four = line_entry_at (bytes "words=") t k.fourth in
-      let good = accepted_with k.master k.rate three.value four.value four.next in
-      by-lt (λ (v : Captured). v.no ≡ 0 → Laid t v) 0 (writes_line_no three) (λ h e. refused-not h e)
-      (λ h. by-lt (λ (v : Captured). v.no ≡ 0 → Laid t v) 0 (words_line_no four) (λ g e. refused-not g e)
-      (λ g. checked-laid good (λ r.
-      record {
+      by-line P (writes_line three.value) 3
+      (λ writes h. by-line P (words_line four.value) 4
+      (λ words g. by-step P (writes_read t writes 5 0 four.next)
+      (λ u w e.
+      let is : c ≡ record { master = k.master; rate = k.rate; writes = writes; words = words; body = four.next } = cc in
+      let p = accepted-paced t k q in
+      let r = run writes 5 0 four.next w in
+      rw is
+      (record {
         top = p.top;
         some = p.some;
         slow = p.slow;
-        writes = writes-range three h;
-        sounds = (words-range four g).0;
-        words = (words-range four g).1;
-        body = line-next _ t k.fourth ∙ ap (λ (p : ℕ). (line_at t p).next) q;
+        writes = writes-range three.value writes h;
+        sounds = (words-range four.value words g).0;
+        words = (words-range four.value words g).1;
+        body = line-next _ t k.fourth ∙ ap (λ (p : ℕ). (line_at t p).next) (fourth-at k q);
         write = r.write;
         rising = r.rising;
-      })))
+      }))
+      (λ _ _ e. cc)) (λ _ e. cc)) (λ _ e. cc))
+      (λ _ _ e. cc)
+
+  -- number 0 is an accepted capture
+  told-laid : (r : Result Capture LineRefused) → checked t ≡ r → (told_capture r).no ≡ 0 → Laid t (told_capture r)
+  told-laid (Ok c) q e = checked-laid c q
+  told-laid (Err refused) q e = absurd (omega (arith, numbered refused.why))
 
   pub accepted-laid : (capture_of t).no ≡ 0 → Laid t (capture_of t)
   unfolding capture_of
-  accepted-laid =
-      let k = clock_lines t in
-      by-lt (λ (v : Captured). v.no ≡ 0 → Laid t v) 0 k.no (λ h e. refused-not h e)
-      (λ h. let z : k.no ≡ 0 = omega (arith, h) in sized-laid k (accepted-paced t z) (fourth-at z))
+  accepted-laid = told-laid (checked t) refl
 
   -- a chip takes the clocks
   pub laid-clocks : (r : Captured) → Laid t r → clocks_no r.master r.rate ≡ accepted
-  unfolding clocks_no
+  unfolding clocks_no accept_clocks
   laid-clocks r l =
       let some : r.rate ≡ 0 → ⊥ = λ e. absurd (omega (arith, l.some)) in
       rw (le-ltb 1073741823 _ l.top, ne_eqb _ 0 some, le-ltb _ _ l.slow)

@@ -1,4 +1,3 @@
-pub mod Header
 pub mod Accepted
 pub mod Told
 pub mod Claims

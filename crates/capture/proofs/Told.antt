@@ -4,20 +4,21 @@ use mathlib.Core.List.{List}
 use Prim.Native.Nat.{ℕ, zero, suc, ◌+◌, ◌*◌, ◌≤◌, ◌<◌}
 use native.Mathlib.Omega.{arith}
 use lib.ListN.{length}
+use Rattle.std.specs.Prelude.{Result, Err}
 use Rattle.laws.proofs.Tests.{by-lt}
 use Rattle.text_lines.specs.Bytes.{bytes}
 use Rattle.text_entries.specs.Entries.{line_entry_at}
 use Rattle.dump_clocks.specs.Clocks.{clock_lines}
-use Rattle.dump_clocks.specs.declared.ClockLines.{ClockLines}
-use Rattle.dump_clocks.proofs.Paced.{numbered}
-use Rattle.capture_lines.specs.OneLine.{writes_line_no, words_line_no}
-use Rattle.capture_lines.proofs.Ranges.{writes-range, words-range, writes-small, words_small}
-use Rattle.capture_writes.specs.Writes.{write_at}
-use Rattle.capture_writes.proofs.Ranged.{ranged-at}
+use Rattle.dump_clocks.specs.declared.LineRefused.{LineRefused}
+use Rattle.dump_clocks.proofs.Paced.{numbered, refused-early}
+use Rattle.capture_lines.specs.OneLine.{writes_line, words_line}
+use Rattle.capture_lines.proofs.Ranges.{writes-range, words-range}
+use Rattle.capture_writes.proofs.Ranged.{refused-line}
+use Rattle.capture_writes.proofs.Steps.{by-step, by-line}
 use Rattle.capture_body.specs.Walk.{writes_read}
-use Rattle.capture_body.specs.declared.WritesRead.{WritesRead}
-use Rattle.capture.specs.Checked.{refused_at, accepted_with, writes_checked, sized, capture_of}
-use Rattle.capture.specs.declared.Captured.{Captured}
+use Rattle.capture_body.proofs.Walking.{by-write}
+use Rattle.capture.specs.Checked.{Captured, told_capture, checked, capture_of}
+use Rattle.capture.specs.declared.Capture.{Capture}
 
 -- line 5 + 3 × 1,500 is the last that a refusal can name: bytes after as many writes as there may be
 pub record Told (v : Captured) : Type 0 where
@@ -30,63 +31,53 @@ pub record Told (v : Captured) : Type 0 where
   pub silent : (v.no ≡ 0 → ⊥) → v.words ≡ 0
   pub some : v.no ≡ 0 → 0 < v.words
 
-told-refusal : (number line : ℕ) → 0 < number → number < 256 → line ≤ 4505 → Told (refused_at number line)
-told-refusal number line h n l =
+told-refusal : (refused : LineRefused) → refused.line ≤ 4505 → Told (told_capture (Err refused))
+told-refusal refused l =
+    let n = numbered refused.why in
     record {
-      no = n;
+      no = n.1;
       line = l;
       writes = omega arith;
       words = omega arith;
       none = λ _. refl;
       silent = λ _. refl;
-      some = λ e. absurd (omega arith);
+      some = λ e. absurd (omega (arith, n.0));
     }
 
-module _ (t : List ℕ) where
-  -- what the walk tells: its number is of the table, and its line none past the last
-  record Walked (v : WritesRead) : Type 0 where
-    no : v.no < 256
-    line : v.line ≤ 4505
+-- the walk names no line past the last
+told-walk : (t : List ℕ) (k line before at : ℕ) (refused : LineRefused) → line + 3 * k ≤ 4505 → writes_read t k line before at ≡ Err refused → refused.line ≤ 4505
+unfolding writes_read
+told-walk t zero line before at refused h =
+    by-lt (λ (r : Result (Unit {0}) LineRefused). r ≡ Err refused → refused.line ≤ 4505) at (length t)
+    (λ _ e. let same : line ≡ refused.line = cc in omega arith) (λ _ e. cc)
+told-walk t (suc k) line before at refused h =
+    by-write (λ (r : Result (Unit {0}) LineRefused). r ≡ Err refused → refused.line ≤ 4505) t line before at
+    (λ lines _ e. told-walk t k (line + 3) lines.write.stamp lines.next refused (omega arith) e)
+    (λ one is e. let same : line + one.line ≡ refused.line = cc in omega (arith, refused-line t before at one is))
 
-  told-walk : (k line before at : ℕ) → line + 3 * k ≤ 4505 → Walked (writes_read t k line before at)
-  unfolding writes_read
-  told-walk zero line before at h = by-lt Walked at (length t) (λ _. record { no = omega arith; line = omega arith }) (λ _. record { no = omega arith; line = omega arith })
-  told-walk (suc k) line before at h =
-      let w = write_at t before at in
-      let r = ranged-at t before at in
-      by-lt Walked 0 w.no (λ n. record { no = r.no; line = omega (arith, r.line) })
-      (λ _. told-walk k (line + 3) w.write.stamp w.next (omega arith))
-
-  told_writes : (good : Captured) → Told good → Told (writes_checked t good)
-  unfolding writes_checked
-  told_writes good g =
-      let read = writes_read t good.writes 5 0 good.body in
-      let r = told-walk good.writes 5 0 good.body (omega (arith, g.writes)) in
-      by-lt Told 0 read.no (λ f. told-refusal read.no read.line f r.no r.line) (λ _. g)
-
-  told-sized : (k : ClockLines) → Told (sized t k)
-  unfolding sized
-  told-sized k =
-      let three = line_entry_at (bytes "writes=") t k.third in
-      let four = line_entry_at (bytes "words=") t k.fourth in
-      by-lt Told 0 (writes_line_no three) (λ h. told-refusal (writes_line_no three) 3 h (writes-small three) (omega arith))
-      (λ h. by-lt Told 0 (words_line_no four) (λ g. told-refusal (words_line_no four) 4 g (words_small four) (omega arith))
-      (λ g.
-      let w = words-range four g in
-      told_writes (accepted_with k.master k.rate three.value four.value four.next)
-      (record {
-        no = omega arith;
-        line = omega arith;
-        writes = writes-range three h;
-        words = w.1;
-        none = λ z. absurd (z refl);
-        silent = λ z. absurd (z refl);
-        some = λ _. w.0;
-      })))
-
-  pub told : Told (capture_of t)
-  unfolding capture_of
-  told =
-      let k = clock_lines t in
-      let n = numbered t in
-      by-lt Told 0 k.no (λ h. told-refusal k.no k.line h n.no (omega (arith, n.line))) (λ _. told-sized k)
+pub told : (t : List ℕ) → Told (capture_of t)
+unfolding capture_of checked
+told t =
+    let P = λ (r : Result Capture LineRefused). Told (told_capture r) in
+    by-step P (clock_lines t)
+    (λ k _.
+    let three = line_entry_at (bytes "writes=") t k.third in
+    let four = line_entry_at (bytes "words=") t k.fourth in
+    by-line P (writes_line three.value) 3
+    (λ writes h. by-line P (words_line four.value) 4
+    (λ words g. by-step P (writes_read t writes 5 0 four.next)
+    (λ _ _.
+    let w = words-range four.value words g in
+    record {
+      no = omega arith;
+      line = omega arith;
+      writes = writes-range three.value writes h;
+      words = w.1;
+      none = λ z. absurd (z refl);
+      silent = λ z. absurd (z refl);
+      some = λ _. w.0;
+    })
+    (λ refused e. told-refusal refused (told-walk t writes 5 0 four.next refused (omega (arith, writes-range three.value writes h)) e)))
+    (λ why. told-refusal (record { why = why; line = 4 }) (omega arith)))
+    (λ why. told-refusal (record { why = why; line = 3 }) (omega arith)))
+    (λ refused e. told-refusal refused (omega (arith, refused-early t refused e)))

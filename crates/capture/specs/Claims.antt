@@ -2,8 +2,7 @@
 use Rattle.std.specs.Prelude.{List, ◌≡◌, ℕ, ◌+◌, ◌*◌, ◌≤◌, ◌<◌, length, get_or}
 use Rattle.refusals.specs.Numbers.{accepted}
 use Rattle.bus_writes.specs.declared.BusWrite.{BusWrite}
-use Rattle.capture_writes.specs.declared.WriteLines.{WriteLines}
-use Rattle.capture_writes.specs.Writes.{write_at, writes_from, place_from}
+use Rattle.capture_writes.specs.Writes.{WriteTold, write_at, writes_from, place_from}
 use Rattle.capture.specs.Checked.{capture_of}
 use Rattle.capture.specs.Rising.{Rising, line_from}
 
@@ -16,7 +15,7 @@ abbrev pub place_of : List ℕ → ℕ → ℕ
 place_of text k = place_from text k (capture_of text).body
 
 -- what its three lines say
-abbrev pub read_of : List ℕ → ℕ → WriteLines
+abbrev pub read_of : List ℕ → ℕ → WriteTold
 read_of text k = write_at text 0 (place_of text k)
 
 pub record Stands (text : List ℕ) (k : ℕ) : Type 0 where

@@ -4,41 +4,35 @@
 ghost use Rattle.std.specs.Prelude.{◌≡◌};
 ghost use Rattle.capture_body.specs.Walk.{writes_read};
 
-// The first refusal and its line; 0 and 0 where there is none.
-#[derive(Clone, Copy)]
-pub struct WritesRead {
-    pub no: u8,
-    pub line: u32,
-}
+use capture_writes::write_at;
+use dump_clocks::LineRefused;
+use refusals::Refusal;
 
-pub fn writes_read(text: &[u8], writes: u16, body: usize) -> WritesRead
+// A refusal names its line of the text: write k, the first being 0, has its `at=` on line 5 + 3 × k.
+pub fn writes_read(text: &[u8], writes: u16, body: usize) -> Result<(), LineRefused>
     ensures { result ≡ writes_read text.now writes 5 0 body }
 {
-    let mut left = writes;
-    let mut line: u32 = 5;
-    let mut before: u64 = 0;
+    let mut before = 0;
     let mut at = body;
-    while left > 0 {
-        let write = capture_writes::write_at(text, before, at);
-        if write.no > 0 {
-            return WritesRead {
-                no: write.no,
-                line: line + write.line,
-            };
+    for k in 0..writes {
+        match write_at(text, before, at) {
+            Ok(lines) => {
+                before = lines.write.stamp;
+                at = lines.next;
+            }
+            Err(refused) => {
+                return Err(LineRefused {
+                    why: refused.why,
+                    line: 5 + 3 * k as u32 + refused.line,
+                });
+            }
         }
-        left -= 1;
-        line += 3;
-        before = write.write.stamp;
-        at = write.next;
     }
     if at < text.len() {
-        return WritesRead {
-            no: refusals::BYTES_AFTER_THE_END,
+        return Err(LineRefused {
+            why: Refusal::BytesAfterTheEnd,
             line: 5 + 3 * writes as u32,
-        };
+        });
     }
-    WritesRead {
-        no: refusals::ACCEPTED,
-        line: 0,
-    }
+    Ok(())
 }

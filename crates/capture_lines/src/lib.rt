@@ -2,9 +2,10 @@
 #![tactic(auto)]
 
 ghost use Rattle.std.specs.Prelude.{◌≡◌};
-ghost use Rattle.capture_lines.specs.OneLine.{port_line_no, stamp_line_no, value_line_no, words_line_no, writes_line_no};
+ghost use Rattle.capture_lines.specs.OneLine.{port_line, stamp_line, value_line, words_line, writes_line};
 
-use text_entries::{ByteEntry, Entry, LongEntry};
+use refusals::Refusal;
+use text_stamps::Misread;
 
 pub const MOST_WRITES: u64 = 1_500;
 
@@ -12,66 +13,55 @@ pub const MOST_WORDS: u64 = 65_536;
 
 pub const HIGHEST_PORT: u64 = 3;
 
-pub fn writes_line_no(e: Entry) -> u8
-    ensures { result ≡ writes_line_no e }
+#[tactic(auto, unfolding(crate::specs::OneLine::writes_line))]
+pub fn writes_line(value: Option<u64>) -> Result<u16, Refusal>
+    ensures { result ≡ writes_line value }
 {
-    if e.bad {
-        return refusals::LINE_NOT_OF_FORM;
+    let writes = value.ok_or(Refusal::LineNotOfForm)?;
+    if writes > MOST_WRITES {
+        return Err(Refusal::SizeOutOfRange);
     }
-    if e.value > MOST_WRITES {
-        return refusals::SIZE_OUT_OF_RANGE;
-    }
-    refusals::ACCEPTED
+    Ok(writes as u16)
 }
 
-pub fn words_line_no(e: Entry) -> u8
-    ensures { result ≡ words_line_no e }
+#[tactic(auto, unfolding(crate::specs::OneLine::words_line))]
+pub fn words_line(value: Option<u64>) -> Result<u32, Refusal>
+    ensures { result ≡ words_line value }
 {
-    if e.bad {
-        return refusals::LINE_NOT_OF_FORM;
+    let words = value.ok_or(Refusal::LineNotOfForm)?;
+    if words == 0 || words > MOST_WORDS {
+        return Err(Refusal::SizeOutOfRange);
     }
-    if e.value == 0 {
-        return refusals::SIZE_OUT_OF_RANGE;
-    }
-    if e.value > MOST_WORDS {
-        return refusals::SIZE_OUT_OF_RANGE;
-    }
-    refusals::ACCEPTED
+    Ok(words as u32)
 }
 
 // `before` is the stamp of the write before; the first has none, and 0 stands for it.
-pub fn stamp_line_no(before: u64, e: LongEntry) -> u8
-    ensures { result ≡ stamp_line_no before e }
+#[tactic(auto, unfolding(crate::specs::OneLine::stamp_line))]
+pub fn stamp_line(before: u64, value: Result<u64, Misread>) -> Result<u64, Refusal>
+    ensures { result ≡ stamp_line before value }
 {
-    if e.bad {
-        return refusals::LINE_NOT_OF_FORM;
+    match value {
+        Err(Misread::NotOfForm) => Err(Refusal::LineNotOfForm),
+        Err(Misread::TooHigh) => Err(Refusal::SizeOutOfRange),
+        Ok(stamp) if stamp < before => Err(Refusal::StampLower),
+        Ok(stamp) => Ok(stamp),
     }
-    if e.over {
-        return refusals::SIZE_OUT_OF_RANGE;
-    }
-    if e.value < before {
-        return refusals::STAMP_LOWER;
-    }
-    refusals::ACCEPTED
 }
 
-pub fn port_line_no(e: Entry) -> u8
-    ensures { result ≡ port_line_no e }
+#[tactic(auto, unfolding(crate::specs::OneLine::port_line))]
+pub fn port_line(value: Option<u64>) -> Result<u8, Refusal>
+    ensures { result ≡ port_line value }
 {
-    if e.bad {
-        return refusals::LINE_NOT_OF_FORM;
+    let port = value.ok_or(Refusal::LineNotOfForm)?;
+    if port > HIGHEST_PORT {
+        return Err(Refusal::SizeOutOfRange);
     }
-    if e.value > HIGHEST_PORT {
-        return refusals::SIZE_OUT_OF_RANGE;
-    }
-    refusals::ACCEPTED
+    Ok(port as u8)
 }
 
-pub fn value_line_no(e: ByteEntry) -> u8
-    ensures { result ≡ value_line_no e }
+#[tactic(auto, unfolding(crate::specs::OneLine::value_line))]
+pub fn value_line(value: Option<u8>) -> Result<u8, Refusal>
+    ensures { result ≡ value_line value }
 {
-    if e.bad {
-        return refusals::LINE_NOT_OF_FORM;
-    }
-    refusals::ACCEPTED
+    value.ok_or(Refusal::LineNotOfForm)
 }

@@ -1,12 +1,11 @@
 -- Words that end before the next write's stamp: nothing is due before any of them. Assumes nothing.
 use mathlib.Core.List.{List}
-use mathlib.Core.Path.{◌≡◌, refl, sym, ◌∙◌}
+use mathlib.Core.Path.{◌≡◌, refl, sym, ap, ◌∙◌}
 use Prim.Native.Nat.{ℕ, zero, suc, ◌+◌, ◌*◌, ◌≤◌, ◌<◌, min}
-use native.Mathlib.Nat.{le_of_lt, le_trans, le-min, min-eq_left, min-eq_right, min-le_left, min-le_right}
+use native.Mathlib.Nat.{le_trans, le-min, min-le_left, min-le_right}
 use native.Mathlib.Omega.{arith}
 use Rattle.laws.proofs.Tests.{on-ne}
 use Rattle.capture_writes.specs.Writes.{write_at, writes_from}
-use Rattle.capture_writes.specs.declared.WriteLines.{WriteLines}
 use Rattle.capture_course.specs.Claims.{NoneBy}
 use Rattle.bus_writes.specs.Due.{words_before}
 use Rattle.bus_writes.proofs.Before.{before-ends, one-before}
@@ -53,12 +52,7 @@ module _ (text : List ℕ) (at start cycles words : ℕ) where
   next-free zero n = absurd (n refl)
   next-free (suc left) n = free-next left
 
-  module _ {writes b : ℕ} {l : WriteLines} (n : writes ≡ 0 → ⊥) (is : l ≡ write_at text 0 at) (e : b ≡ words_before start cycles l.write.stamp) where
-    same : b ≡ before
-    same = rw is at e
-
-    pub fewer-free : b < words → b ≡ free writes
-    fewer-free h = same ∙ sym (min-eq_left (rw same at (le_of_lt h))) ∙ sym (next-free writes n)
-
-    pub rest-free : words ≤ b → words ≡ free writes
-    rest-free h = sym (min-eq_right (rw same at h)) ∙ sym (next-free writes n)
+  -- `free_words` takes the fewer of the words and of those before the next write's stamp
+  pub fewer-free : {writes stamp b r : ℕ} → (writes ≡ 0 → ⊥) → stamp ≡ (write_at text 0 at).write.stamp → b ≡ words_before start cycles stamp
+      → r ≡ min b words → r ≡ free writes
+  fewer-free {writes} n is e q = q ∙ ap (λ (b : ℕ). min b words) (e ∙ ap (words_before start cycles) is) ∙ sym (next-free writes n)

@@ -1,11 +1,14 @@
 -- The next word's number, and what is passed before it: `pass_due`'s returns. Assumes nothing.
 use mathlib.Core.Bool.{Bool, true, false, not}
 use mathlib.Core.List.{List}
-use mathlib.Core.Path.{◌≡◌, sym, ◌∙◌}
+use mathlib.Core.Path.{◌≡◌, sym, ap, ◌∙◌}
 use Prim.Native.Nat.{ℕ, ◌^◌, ◌≤◌, ◌<◌}
 use native.Mathlib.Omega.{arith}
 use borrow.Author.Tests.{not-true, not-false, eq-eqb, ne_eqb}
-use Rattle.refusals.specs.Numbers.{accepted, out_of_range}
+use Rattle.std.specs.Prelude.{Ok, Err}
+use Rattle.refusals.specs.Numbers.{accepted, out_of_range, number_of, answer_no}
+use Rattle.refusals.specs.declared.Refusal.{Refusal}
+use Rattle.block_limits.specs.Limits.{accept_block, block_number}
 use Rattle.block_limits.proofs.Fits.{fits, in-time}
 use Rattle.chip.specs.declared.Chip.{Chip}
 use Rattle.chip.specs.Range.{chip_in}
@@ -14,6 +17,16 @@ use Rattle.clocking_word.specs.Word.{end_of}
 use Rattle.calls_words.specs.Blocks.{block_no}
 use Rattle.capture_passing.specs.Due.{stopped, pass_from, word_no, pass_due_from}
 use Rattle.capture_passing.specs.declared.Passing.{Passing}
+
+-- the number of a block of one word, as the test of it says
+module _ (c : Chip) where
+  pub block-refused : (why : Refusal) → Err why ≡ accept_block 1 c.core.start c.core.clocks.cycles → number_of why ≡ block_no 1 c
+  unfolding block_number
+  block-refused why e = ap answer_no e
+
+  pub block-taken : {u : Unit {0}} → Ok u ≡ accept_block 1 c.core.start c.core.clocks.cycles → accepted ≡ block_no 1 c
+  unfolding block_number
+  block-taken e = ap answer_no e
 
 -- a word's cycles fit 32 bits, and its end fits 64
 pub cycles-fit : {c : Chip} → InRange c → c.core.clocks.cycles ≤ 4294967295
@@ -25,7 +38,7 @@ end_fits c e z = let f = fits 1 c.core.start c.core.clocks.cycles (sym e ∙ z) 
 -- of a chip in range whose next word ends by cycle 2^64 - 1, that word can be rendered
 pub word-can : {c : Chip} → InRange c → end_of c.core < 2 ^ 64 → word_no c ≡ accepted
 word-can {c} h soon =
-    rw (passes h) (sym (in-time 1 c.core.start c.core.clocks.cycles (omega arith) (omega arith) (omega arith)))
+    rw (passes h) (in-time 1 c.core.start c.core.clocks.cycles (omega arith) (omega arith))
 
 module _ (text : List ℕ) (writes at : ℕ) (c : Chip) {r : Bool} (is : r ≡ chip_in c) where
   pub due-out : {p : Passing} → not r ≡ true → p ≡ stopped c at writes out_of_range → p ≡ pass_due_from text writes at c

@@ -2,11 +2,15 @@
 #![tactic(auto)]
 
 ghost use Rattle.std.specs.Prelude.{◌≡◌};
+ghost use Rattle.capture_writes.specs.Writes.{write_at};
 ghost use Rattle.capture_passing.specs.Due.{free_words, pass_due_from, pass_from, stopped};
 
+use block_limits::accept_block;
+use capture_writes::write_at;
 use chip::Chip;
 
-// The chip, and of the writes yet to be passed the next one's place and how many they are. `no` 0: what was due has been passed.
+// The chip, and of the writes yet to be passed the next one's place and how many they are. `no` is a number as a call of the chip answers it:
+// 0 says that what was due has been passed.
 #[derive(Clone, Copy)]
 pub struct Passing {
     pub chip: Chip,
@@ -24,11 +28,10 @@ pub fn pass_due(chip: Chip, text: &[u8], at: usize, writes: u16) -> Passing
     }
     let start = chip.core.start;
     let cycles = chip.core.clocks.cycles;
-    let no = block_limits::block_no(start, cycles, 1);
-    if no != refusals::ACCEPTED {
-        return stopped(chip, at, writes, no);
+    match accept_block(start, cycles, 1) {
+        Ok(()) => pass_until(chip, text, at, writes, start + cycles),
+        Err(why) => stopped(chip, at, writes, why.number()),
     }
-    pass_until(chip, text, at, writes, start + cycles)
 }
 
 fn pass_until(chip: Chip, text: &[u8], at: usize, writes: u16, end: u64) -> Passing
@@ -36,25 +39,23 @@ fn pass_until(chip: Chip, text: &[u8], at: usize, writes: u16, end: u64) -> Pass
 {
     let mut chip = chip;
     let mut at = at;
-    let mut left = writes;
-    while left > 0 {
-        let lines = capture_writes::write_at(text, 0, at);
-        if lines.no != refusals::ACCEPTED {
-            return stopped(chip, at, left, lines.no);
+    for k in 0..writes {
+        match write_at(text, 0, at) {
+            Err(refused) => return stopped(chip, at, writes - k, refused.why.number()),
+            Ok(lines) => {
+                if !bus_writes::is_due(lines.write, end) {
+                    return stopped(chip, at, writes - k, refusals::ACCEPTED);
+                }
+                let passed = bus::pass_write(chip, lines.write);
+                if passed.no != refusals::ACCEPTED {
+                    return stopped(chip, at, writes - k, passed.no);
+                }
+                chip = passed.chip;
+                at = lines.next;
+            }
         }
-        let write = lines.write;
-        if !bus_writes::is_due(write, end) {
-            return stopped(chip, at, left, refusals::ACCEPTED);
-        }
-        let passed = bus::pass_write(chip, write);
-        if passed.no != refusals::ACCEPTED {
-            return stopped(chip, at, left, passed.no);
-        }
-        chip = passed.chip;
-        at = lines.next;
-        left -= 1;
     }
-    stopped(chip, at, left, refusals::ACCEPTED)
+    stopped(chip, at, 0, refusals::ACCEPTED)
 }
 
 fn stopped(chip: Chip, at: usize, writes: u16, no: u8) -> Passing
@@ -75,11 +76,16 @@ pub fn free_words(text: &[u8], at: usize, writes: u16, start: u64, cycles: u64, 
     if writes == 0 {
         return words;
     }
-    let lines = capture_writes::write_at(text, 0, at);
-    let before = bus_writes::words_before(start, cycles, lines.write.stamp);
-    if before < words as u64 {
-        before as u32
-    } else {
-        words
+    bus_writes::words_before(start, cycles, stamp_at(text, at)).min(u64::from(words)) as u32
+}
+
+// The stamp of the write at a place. No line of a checked capture is bad; 0 would stand for a bad one's.
+#[tactic(auto, unfolding(capture_writes::specs::Writes::write_at))]
+fn stamp_at(text: &[u8], at: usize) -> u64
+    ensures { result ≡ (write_at text.now 0 at).write.stamp }
+{
+    match write_at(text, 0, at) {
+        Ok(lines) => lines.write.stamp,
+        Err(_) => 0,
     }
 }

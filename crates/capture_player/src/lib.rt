@@ -15,6 +15,7 @@ pub fn next_piece(player: Player, text: &[u8], out: &mut [u8]) -> Piece
 {
     let mut player = player;
     let mut filled = 0;
+    // no range to count over: how far a step moves is what it answers
     loop {
         let step = capture_steps::step(player, text, &mut out[filled..]);
         if step.length == 0 {

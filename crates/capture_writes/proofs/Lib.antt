@@ -1,3 +1,3 @@
-pub mod ThreeLines
+pub mod Steps
 pub mod Ranged
 pub mod Listed

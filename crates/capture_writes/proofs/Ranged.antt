@@ -1,107 +1,125 @@
 -- What callers lean on: the numbers of any write's lines are in range, and an accepted write is not lower than the one before. Assumes nothing.
-use mathlib.Core.Bool.{false, cond}
-use mathlib.Core.Path.{◌≡◌, ◌∙◌, ap}
+use mathlib.Core.Path.{◌≡◌, refl, sym, ◌∙◌, ap}
 use mathlib.Core.List.{List}
 use Prim.Native.Nat.{ℕ, ◌≤◌, ◌<◌}
 use native.Mathlib.Omega.{arith}
-use borrow.Author.Tests.{le-ltb, ltb-false}
-use lib.Dec.{ltb}
-use Rattle.laws.proofs.Tests.{by-lt}
-use Rattle.refusals.specs.Numbers.{accepted, size_out_of_range, stamp_lower}
+use Rattle.std.specs.Prelude.{Option, Result, Ok, Err, ⊤}
+use Rattle.std.proofs.lemmas.Result.{IfOk-at_ok}
+use Rattle.std.proofs.lemmas.Option.{MatchOption-at_some}
+use Rattle.refusals.specs.declared.Refusal.{Refusal}
 use Rattle.text_lines.specs.Bytes.{bytes}
 use Rattle.text_lines.specs.Lines.{line_at}
 use Rattle.text_entries.specs.Entries.{line_entry_at, long_entry_at, byte_entry_at}
 use Rattle.text_entries.specs.declared.Entry.{Entry}
-use Rattle.text_entries.specs.declared.LongEntry.{LongEntry}
-use Rattle.text_entries.specs.declared.ByteEntry.{ByteEntry}
-use Rattle.text_entries.proofs.Numbers.{passed, either}
 use Rattle.text_entries.proofs.Ranges.{long-held, byte-held, long-next, line-next, byte_next}
-use Rattle.capture_lines.specs.OneLine.{stamp_line_no, port_line_no, value_line_no}
-use Rattle.capture_lines.proofs.Ranges.{port-small, port-range, value-small}
-use Rattle.capture_writes.specs.Writes.{write_at}
+use Rattle.text_stamps.specs.declared.Misread.{Misread}
+use Rattle.dump_clocks.specs.declared.LineRefused.{LineRefused}
+use Rattle.dump_clocks.proofs.Paced.{numbered}
+use Rattle.capture_lines.specs.OneLine.{stamp_line, port_line, value_line}
+use Rattle.capture_lines.proofs.Ranges.{stamp-read, port-range, value-read}
+use Rattle.capture_writes.specs.Writes.{WriteTold, told_write, lines_at, write_at}
 use Rattle.capture_writes.specs.declared.WriteLines.{WriteLines}
+use Rattle.capture_writes.proofs.Steps.{by-line}
 
 -- of every text and place, a refused one too
-pub record Ranged (w : WriteLines) : Type 0 where
+pub record Ranged (w : WriteTold) : Type 0 where
   pub no : w.no < 256
   pub line : w.line ≤ 2
   pub stamp : w.write.stamp ≤ 18446744073709551615
   pub port : w.write.port ≤ 3
   pub value : w.write.value ≤ 255
 
-stamp-small : (before : ℕ) (e : LongEntry) → stamp_line_no before e < 256
-unfolding stamp_line_no
-stamp-small before e = either e.bad (omega arith) (either e.over (omega arith) (either (ltb e.value before) (omega arith) (omega arith)))
-
-module _ (before : ℕ) (e : LongEntry) (h : stamp_line_no before e ≤ 0) where
-  form : (e.bad ≡ false) × (cond e.over size_out_of_range (cond (ltb e.value before) stamp_lower accepted) ≤ 0)
-  unfolding stamp_line_no
-  form = passed e.bad _ _ (omega arith) h
-
-  range : (e.over ≡ false) × (cond (ltb e.value before) stamp_lower accepted ≤ 0)
-  range = passed e.over _ _ (omega arith) form.1
-
-  -- a stamp that is taken is not lower than the one before
-  stamp-order : before ≤ e.value
-  stamp-order = ltb-false e.value before (passed (ltb e.value before) _ _ (omega arith) range.1).0
-
-  -- one that is taken after a stamp is taken after none
-  stamp-first : stamp_line_no 0 e ≤ 0
-  unfolding stamp_line_no
-  stamp-first = rw (form.0, range.0, le-ltb e.value 0 (omega arith)) (omega arith)
-
 -- what is known of an accepted write
-record Taken (t : List ℕ) (before at : ℕ) (w : WriteLines) : Type 0 where
-  same : w ≡ write_at t 0 at
-  order : before ≤ w.write.stamp
-  on : w.next ≡ (line_at t (line_at t (line_at t at).next).next).next
+pub record Taken (t : List ℕ) (before at : ℕ) (w : WriteLines) : Type 0 where
+  pub same : lines_at t 0 at ≡ Ok w
+  pub order : before ≤ w.write.stamp
+  pub on : w.next ≡ (line_at t (line_at t (line_at t at).next).next).next
 
 module _ (t : List ℕ) (before at : ℕ) where
-  abbrev one : LongEntry
+  abbrev one : Entry (Result ℕ Misread)
   one = long_entry_at (bytes "at=") t at
 
-  abbrev two : Entry
+  abbrev two : Entry (Option ℕ)
   two = line_entry_at (bytes "port=") t one.next
 
-  abbrev three : ByteEntry
+  abbrev three : Entry (Option ℕ)
   three = byte_entry_at (bytes "value=") t two.next
 
-  bad-ranged : (number line : ℕ) → number < 256 → line ≤ 2
-      → Ranged (record { no = number; line = line; write = record { stamp = 0; port = 0; value = 0 }; next = 0 })
-  bad-ranged number line h l = record { no = h; line = l; stamp = omega arith; port = omega arith; value = omega arith }
+  bad-ranged : (line : ℕ) → line ≤ 2 → (why : Refusal) → Ranged (told_write (Err (record { why = why; line = line })))
+  bad-ranged line l why = record { no = (numbered why).1; line = l; stamp = omega arith; port = omega arith; value = omega arith }
 
   pub ranged-at : Ranged (write_at t before at)
-  unfolding write_at
+  unfolding write_at lines_at
   ranged-at =
-      by-lt Ranged 0 (stamp_line_no before one) (λ _. bad-ranged _ 0 (stamp-small before one) (omega arith))
-      (λ _. by-lt Ranged 0 (port_line_no two) (λ _. bad-ranged _ 1 (port-small two) (omega arith))
-      (λ h. by-lt Ranged 0 (value_line_no three) (λ _. bad-ranged _ 2 (value-small three) (omega arith))
-      (λ _. record { no = omega arith; line = omega arith; stamp = long-held _ t at; port = port-range two h; value = byte-held _ t _ })))
-
-  refused-not : {w : WriteLines} {n : ℕ} → 0 < n → n ≡ 0 → Taken t before at w
-  refused-not h e = absurd (omega arith)
-
-  taken : (write_at t before at).no ≡ 0 → Taken t before at (write_at t before at)
-  unfolding write_at
-  taken =
-      by-lt (λ (w : WriteLines). w.no ≡ 0 → Taken t before at w) 0 (stamp_line_no before one) (λ h e. refused-not h e)
-      (λ f. by-lt (λ (w : WriteLines). w.no ≡ 0 → Taken t before at w) 0 (port_line_no two) (λ h e. refused-not h e)
-      (λ g. by-lt (λ (w : WriteLines). w.no ≡ 0 → Taken t before at w) 0 (value_line_no three) (λ h e. refused-not h e)
-      (λ h e.
+      let P = λ (r : Result WriteLines LineRefused). Ranged (told_write r) in
+      by-line P (stamp_line before one.value) 0
+      (λ stamp s. by-line P (port_line two.value) 1
+      (λ port p. by-line P (value_line three.value) 2
+      (λ value v.
       record {
-        same = rw (le-ltb 0 _ (stamp-first before one f), le-ltb 0 _ g, le-ltb 0 _ h);
-        order = stamp-order before one f;
+        no = omega arith;
+        line = omega arith;
+        stamp = IfOk-at_ok (λ (n : ℕ). n ≤ 18446744073709551615) (stamp-read before one.value stamp s).0 (long-held _ t at);
+        port = port-range two.value port p;
+        value = MatchOption-at_some ⊤ (λ (n : ℕ). n ≤ 255) value (value-read three.value value v) (byte-held _ t two.next);
+      })
+      (bad-ranged 2 (omega arith))) (bad-ranged 1 (omega arith))) (bad-ranged 0 (omega arith))
+
+  pub taken : (w : WriteLines) → lines_at t before at ≡ Ok w → Taken t before at w
+  unfolding lines_at
+  taken w =
+      let P = λ (r : Result WriteLines LineRefused). r ≡ Ok w → Taken t before at w in
+      by-line P (stamp_line before one.value) 0
+      (λ stamp s. by-line P (port_line two.value) 1
+      (λ port p. by-line P (value_line three.value) 2
+      (λ value v e.
+      let read = stamp-read before one.value stamp s in
+      let is : w ≡ record { write = record { stamp = stamp; port = port; value = value }; next = three.next } = cc in
+      rw is
+      (record {
+        same = rw (read.2, p, v) refl;
+        order = read.1;
         on = byte_next _ t two.next ∙ ap (λ (p : ℕ). (line_at t p).next) (line-next _ t one.next ∙ ap (λ (p : ℕ). (line_at t p).next) (long-next _ t at));
-      })))
+      }))
+      (λ why e. cc)) (λ why e. cc)) (λ why e. cc)
 
-  module _ (e : (write_at t before at).no ≡ 0) where
-    -- an accepted write is the same after any stamp, and not lower than it
-    pub same_after : write_at t before at ≡ write_at t 0 at
-    same_after = (taken e).same
+-- a write in numbers
+pub accepted-at : (t : List ℕ) (before at : ℕ) (lines : WriteLines) → lines_at t before at ≡ Ok lines → write_at t before at ≡ told_write (Ok lines)
+unfolding write_at
+accepted-at t before at lines e = ap told_write e
 
-    pub not_lower : before ≤ (write_at t before at).write.stamp
-    not_lower = (taken e).order
+pub refused-at : (t : List ℕ) (before at : ℕ) (refused : LineRefused) → lines_at t before at ≡ Err refused → write_at t before at ≡ told_write (Err refused)
+unfolding write_at
+refused-at t before at refused e = ap told_write e
 
-    -- three lines on
-    pub three-on : (write_at t before at).next ≡ (line_at t (line_at t (line_at t at).next).next).next
-    three-on = (taken e).on
+-- a refusal names one of the three lines
+pub refused-line : (t : List ℕ) (before at : ℕ) (refused : LineRefused) → lines_at t before at ≡ Err refused → refused.line ≤ 2
+refused-line t before at refused e = rw (refused-at t before at refused e) at (ranged-at t before at).line
+
+-- number 0 is an accepted write
+pub told-ok : (r : Result WriteLines LineRefused) → (told_write r).no ≡ 0 → (w : WriteLines) × (r ≡ Ok w)
+told-ok (Ok w) e = (w, refl)
+told-ok (Err refused) e = absurd (omega (arith, numbered refused.why))
+
+module _ (t : List ℕ) (before at : ℕ) (e : (write_at t before at).no ≡ 0) where
+  abbrev found : (w : WriteLines) × (lines_at t before at ≡ Ok w)
+  unfolding write_at
+  found = told-ok (lines_at t before at) e
+
+  known : Taken t before at found.0
+  known = taken t before at found.0 found.1
+
+  -- an accepted write is the same after any stamp, and not lower than it
+  pub same_after : write_at t before at ≡ write_at t 0 at
+  unfolding write_at
+  same_after = ap told_write (found.1 ∙ sym known.same)
+
+  told_as : write_at t before at ≡ told_write (Ok found.0)
+  told_as = accepted-at t before at found.0 found.1
+
+  pub not_lower : before ≤ (write_at t before at).write.stamp
+  not_lower = rw told_as known.order
+
+  -- three lines on
+  pub three-on : (write_at t before at).next ≡ (line_at t (line_at t (line_at t at).next).next).next
+  three-on = rw told_as known.on

@@ -2,9 +2,9 @@
 #![tactic(auto)]
 
 ghost use Rattle.std.specs.Prelude.{◌≡◌, ◌<◌};
-ghost use Rattle.tables.specs.Levels.{levels};
 ghost use Rattle.channel.specs.Channel.{heard, sounded, channel_reset, with_mute, with_drum, quiet};
 
+// Of the shape of an `Option`, but 01 asks for it by name: "enum with Off and Sample(f32), matched when a channel's output is worked out".
 #[derive(Clone, Copy)]
 pub enum Drum {
     Off,
@@ -72,28 +72,18 @@ impl Channel {
     }
 
     // `gate` holds the channel's five bits at the bottom.
-    pub fn sound(
-        self,
-        variant: u8,
-        volume: u8,
-        half: bool,
-        envelope: u8,
-        gate: u32,
-        table: &[u16; 32],
-    ) -> Heard
+    pub fn sound(self, variant: u8, volume: u8, half: bool, envelope: u8, gate: u32) -> Heard
         requires envelope_bound { envelope < 32 }
-        requires table_value { table.now ≡ levels }
         ensures { result ≡ sounded variant self volume half envelope gate }
     {
         let ungated = levels::level_used(variant, volume, envelope);
         let gated = levels::gated_level(ungated, gate);
-        self.compute_output(gated, ungated, half, table)
+        self.compute_output(gated, ungated, half)
     }
 
-    // `gated` and `ungated` are level indices; `table` is that of `tables::level_table`.
-    pub fn compute_output(self, gated: u8, ungated: u8, half: bool, table: &[u16; 32]) -> Heard
+    // `gated` and `ungated` are level indices.
+    pub fn compute_output(self, gated: u8, ungated: u8, half: bool) -> Heard
         requires gated_bound { (gated < 32) × (ungated < 32) }
-        requires table_value { table.now ≡ levels }
         ensures { result ≡ heard self gated ungated half }
     {
         let drum = self.drum;
@@ -118,8 +108,8 @@ impl Channel {
                 Heard { out, channel }
             }
             Drum::Off => {
-                let out = levels::loudness(table, gated, half);
-                let amplitude = levels::loudness(table, ungated, half) as f32 / 10922.0;
+                let out = levels::loudness(gated, half);
+                let amplitude = levels::loudness(ungated, half) as f32 / 10922.0;
                 let output = if ungated == 0 {
                     0.0
                 } else if gated == ungated {

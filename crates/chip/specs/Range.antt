@@ -1,6 +1,6 @@
 -- The test that answers 22. 01, "What changes shape": "As a caller can hand in any record, calls test it"; 02, request 05, for the variant.
 -- From "stored bytes within masks" to "gate masks to 0x7fff" it is `voice_in`, on the page of `voice_range`. Assumes nothing.
-use Rattle.std.specs.Prelude.{Bool, true, List, [], ◌∷◌, ℕ, ◌*◌, ◌/◌, ◌<◌, leb, ltb, eqb}
+use Rattle.std.specs.Prelude.{Bool, List, [], ◌∷◌, ℕ, ◌*◌, ◌/◌, ◌<◌, leb, ltb, eqb}
 use Rattle.laws.specs.All.{holds}
 use Rattle.refusals.specs.Numbers.{accepted}
 use Rattle.registers.specs.declared.Voice.{Voice}

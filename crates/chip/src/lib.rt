@@ -115,10 +115,11 @@ fn core_in(core: Core) -> bool
     true
 }
 
+#[tactic(auto, unfolding(crate::specs::Range::clocks_in))]
 fn clocks_in(clocks: Clocks, accumulator: u32) -> bool
     ensures { result ≡ clocks_in clocks accumulator }
 {
-    if clocks::clocks_no(clocks.master, clocks.rate) != refusals::ACCEPTED {
+    if clocks::accept_clocks(clocks.master, clocks.rate).is_err() {
         return false;
     }
     if clocks.internal != clocks.master / 8 {

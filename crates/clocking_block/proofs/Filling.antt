@@ -6,7 +6,6 @@ use native.Mathlib.Omega.{arith}
 use native.Mathlib.Nat.{add-mul}
 use lib.ListN.{length, take}
 use lib.Seq.{take_all}
-use Rattle.tables.specs.Levels.{levels}
 use Rattle.envelope_wave.specs.declared.Wave.{Wave}
 use Rattle.envelope_wave.specs.Wave.{wave_of}
 use Rattle.level_scale.specs.declared.Scale.{Scale}
@@ -34,8 +33,7 @@ use Rattle.clocking_block.proofs.Quiet.{with_kept, kept, kept-sounds, with_due, 
 abbrev pub midway : ℕ → Core → Queue → ℕ → Chip
 midway i core q gate = record { core = with_kept (kept i core gate) core; queue = q }
 
-pub record Filling (lent : List ℕ) (w : Wave) (s : Scale) (c₀ : Chip) (core : Core) (q : Queue) (gate : ℕ) (out₀ out : List ℕ) (ticks i : ℕ) : Type 0 where
-  pub table : lent ≡ levels
+pub record Filling (w : Wave) (s : Scale) (c₀ : Chip) (core : Core) (q : Queue) (gate : ℕ) (out₀ out : List ℕ) (ticks i : ℕ) : Type 0 where
   pub wave : w ≡ wave_of (offset_in core)
   pub scale : s ≡ scale_of core.variant
   pub ok : CoreInRange core
@@ -50,13 +48,12 @@ pub record Filling (lent : List ℕ) (w : Wave) (s : Scale) (c₀ : Chip) (core 
   pub last : after_words left (midway i core q gate) ≡ after_words (length out₀) c₀
   pub sum : ticks + ticks_of left (midway i core q gate) ≡ ticks_of (length out₀) c₀
 
-pub filling-start : {table : List ℕ} {w : Wave} {s : Scale} {c : Chip} {out : List ℕ} → table ≡ levels → w ≡ wave_of (offset_in c.core) → s ≡ scale_of c.core.variant → CoreInRange c.core
+pub filling-start : {w : Wave} {s : Scale} {c : Chip} {out : List ℕ} → w ≡ wave_of (offset_in c.core) → s ≡ scale_of c.core.variant → CoreInRange c.core
     → QueueInRange c.queue → length out ≤ 65536 → c.core.start + length out * c.core.clocks.cycles < 2 ^ 64
-    → Filling table w s c c.core c.queue 0 out out 0 0
+    → Filling w s c c.core c.queue 0 out out 0 0
 unfolding kept
-filling-start {table} {w} {s} {c} {out} t e a h q p z =
+filling-start {w} {s} {c} {out} e a h q p z =
     record {
-      table = t;
       wave = e;
       scale = a;
       ok = h;
@@ -81,8 +78,8 @@ kept-some (suc n) k gate h = refl
 midway-some : (n : ℕ) {k l : Core} {g h : ℕ} (q : Queue) → 0 < n → k ≡ l → g ≡ h → midway n k q g ≡ record { core = with_kept (kept 1 l h) l; queue = q }
 midway-some n {k} {l} {g} {h} q some e a = rw (kept-some n k g some) (rw (e, a))
 
-module _ {table : List ℕ} {w : Wave} {s : Scale} {c₀ : Chip} {core : Core} {gate head count : ℕ} {stamps registers values : List ℕ} {out₀ out : List ℕ} {ticks i : ℕ}
-    (f : Filling table w s c₀ core (ring stamps registers values head count) gate out₀ out ticks i) where
+module _ {w : Wave} {s : Scale} {c₀ : Chip} {core : Core} {gate head count : ℕ} {stamps registers values : List ℕ} {out₀ out : List ℕ} {ticks i : ℕ}
+    (f : Filling w s c₀ core (ring stamps registers values head count) gate out₀ out ticks i) where
   abbrev q : Queue
   q = ring stamps registers values head count
 
@@ -159,13 +156,12 @@ module _ {table : List ℕ} {w : Wave} {s : Scale} {c₀ : Chip} {core : Core} {
 
       -- a run more
       pub filling-on : {v : Wave} → v ≡ wave_of d.voice.generators.envelope.offset
-          → Filling table v s c₀ (left_by r (with_due d.voice core)) (ring stamps registers values d.head d.count) r.gate out₀ out' (ticks + r.ticks) r.next
+          → Filling v s c₀ (left_by r (with_due d.voice core)) (ring stamps registers values d.head d.count) r.gate out₀ out' (ticks + r.ticks) r.next
       filling-on {v} wave =
           let start : r.start ≡ core.start + many * core.clocks.cycles = ap (λ (k : Core). k.start) u.core ∙ far.start in
           let time : core.start + (many * core.clocks.cycles + still * core.clocks.cycles) < 2 ^ 64 = rw add-mul at (rw split at f.soon) in
           let sum = f.sum in
           record {
-            table = f.table;
             wave = wave ∙ ap wave_of (sym (ap offset_in u.core ∙ far.shape));
             scale = f.scale;
             ok = rw u.core far.ok;

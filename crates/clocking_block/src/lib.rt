@@ -37,8 +37,6 @@ pub fn render<'t, 'o>(
     ensures out_after { out.new ≡ words_of (length out.old)
         (chip_with before (ring stamps.now registers.now values.now place waiting)) }
 {
-    // a const table is rebuilt at each use: copied once, then lent
-    let table = tables::level_table();
     let scale = level_scale::scale_of(before.variant);
     let mut core = before;
     let mut wave = envelope_wave::wave_of(core.voice.generators.envelope.offset);
@@ -47,6 +45,7 @@ pub fn render<'t, 'o>(
     let mut gate: u32 = 0;
     let mut ticks: u64 = 0;
     let mut i: usize = 0;
+    // no `for`: each turn goes on by as many words as its run filled
     while i < out.len() {
         let end = core.start + core.clocks.cycles;
         let drained = queue_drain::drain(core.voice, stamps, registers, values, head, count, end);
@@ -56,7 +55,7 @@ pub fn render<'t, 'o>(
         count = drained.count;
         wave = envelope_wave::wave_after(wave, voice.generators.envelope.offset);
         let due = next_due(stamps, head, count);
-        let run = clocking_run::run_words(core, due, &table, wave, scale, out, i);
+        let run = clocking_run::run_words(core, due, wave, scale, out, i);
         let generators = run.generators;
         voice.generators = generators;
         core.voice = voice;
@@ -67,13 +66,7 @@ pub fn render<'t, 'o>(
         i = run.next;
     }
     if i > 0 {
-        let channels = clocking_word::kept_of_word(
-            core.variant,
-            core.channels,
-            core.voice,
-            gate,
-            &table,
-        );
+        let channels = clocking_word::kept_of_word(core.variant, core.channels, core.voice, gate);
         core.channels = channels;
     }
     Rendered {

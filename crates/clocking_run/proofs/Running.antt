@@ -11,7 +11,6 @@ use lib.ListN.{length, set, take, drop, length-set}
 use lib.Seq.{take-suc-set, drop-cons, drop-set-lt}
 use Rattle.laws.proofs.Tests.{by_order}
 use borrow.Author.Tests.{ltb-true, ltb-false, lt-ltb}
-use Rattle.tables.specs.Levels.{levels}
 use Rattle.envelope_wave.specs.declared.Wave.{Wave}
 use Rattle.envelope_wave.specs.Wave.{wave_of}
 use Rattle.level_scale.specs.declared.Scale.{Scale}
@@ -41,12 +40,11 @@ abbrev LastGate : ℕ → Core → ℕ → Type 0
 LastGate zero c gate = Unit {0}
 LastGate (suc n) c gate = gate ≡ (next_ticks (core_after n c)).gate
 
-pub record Running (c : Core) (due first : ℕ) (lent : List ℕ) (w : Wave) (s : Scale) (out₀ out : List ℕ) (g : Generators) (accumulator start gate ticks i : ℕ) (more : Bool)
+pub record Running (c : Core) (due first : ℕ) (w : Wave) (s : Scale) (out₀ out : List ℕ) (g : Generators) (accumulator start gate ticks i : ℕ) (more : Bool)
     : Type 0 where
   pub done : ℕ
   pub core : midway c g accumulator start ≡ core_after done c
   pub ok : CoreInRange (midway c g accumulator start)
-  pub table : lent ≡ levels
   pub wave : w ≡ wave_of g.envelope.offset
   pub scale : s ≡ scale_of c.variant
   pub place : i ≡ first + done
@@ -90,17 +88,16 @@ goes-late false due end r e = absurd (false-is-not r)
 tail-same : (a b : List ℕ) (i : ℕ) → i < length a → i < length b → drop i a ≡ drop i b → drop (suc i) a ≡ drop (suc i) b
 tail-same a b i h k e = ap (drop 1) (sym (drop-cons a i 0 h)) ∙ ap (drop 1) e ∙ ap (drop 1) (drop-cons b i 0 k)
 
-pub running-start : {c : Core} {due first : ℕ} {lent : List ℕ} {w : Wave} {s : Scale} {out : List ℕ} → CoreInRange c → lent ≡ levels → w ≡ wave_of (offset_in c)
+pub running-start : {c : Core} {due first : ℕ} {w : Wave} {s : Scale} {out : List ℕ} → CoreInRange c → w ≡ wave_of (offset_in c)
     → s ≡ scale_of c.variant
     → first < length out → length out ≤ 65536 → c.start + (length out - first) * c.clocks.cycles < 2 ^ 64
-    → Running c due first lent w s out out c.voice.generators c.accumulator c.start 0 0 first true
+    → Running c due first w s out out c.voice.generators c.accumulator c.start 0 0 first true
 unfolding core_after words_from ticks_from
-running-start {c} {due} {first} {lent} {w} {s} {out} h t v a f l z =
+running-start {c} {due} {first} {w} {s} {out} h v a f l z =
     record {
       done = 0;
       core = refl;
       ok = h;
-      table = t;
       wave = v;
       scale = a;
       place = omega arith;
@@ -120,8 +117,8 @@ running-start {c} {due} {first} {lent} {w} {s} {out} h t v a f l z =
       ahead = λ n e. absurd (omega arith);
     }
 
-module _ {c : Core} {due first : ℕ} {lent : List ℕ} {w : Wave} {s : Scale} {out₀ out : List ℕ} {g : Generators} {accumulator start gate ticks i : ℕ}
-    {again : Bool} (f : Running c due first lent w s out₀ out g accumulator start gate ticks i again) (t : again ≡ true) where
+module _ {c : Core} {due first : ℕ} {w : Wave} {s : Scale} {out₀ out : List ℕ} {g : Generators} {accumulator start gate ticks i : ℕ}
+    {again : Bool} (f : Running c due first w s out₀ out g accumulator start gate ticks i again) (t : again ≡ true) where
   -- the next word ends in time
   pub next-soon : start + c.clocks.cycles < 2 ^ 64
   next-soon =
@@ -170,7 +167,7 @@ module _ {c : Core} {due first : ℕ} {lent : List ℕ} {w : Wave} {s : Scale} {
     -- one word more
     pub running-on : {word : ℕ} {room more : Bool} → i < length out → word ≡ (mixed_of c.variant c.channels (with_generators r.generators c.voice) r.gate).word
         → room ≡ ltb (i + 1) (length (set out i word)) → more ≡ goes_on room due (start + c.clocks.cycles + c.clocks.cycles)
-        → Running c due first lent w s out₀ (set out i word) r.generators r.accumulator (start + c.clocks.cycles) r.gate (ticks + r.ticks) (i + 1) more
+        → Running c due first w s out₀ (set out i word) r.generators r.accumulator (start + c.clocks.cycles) r.gate (ticks + r.ticks) (i + 1) more
     unfolding core_after next_core words_from ticks_from
     running-on {word} {room} {more} h v p m =
         let ran-is : r ≡ next_ticks (core_after f.done c) = e ∙ ap next_ticks f.core in
@@ -185,7 +182,6 @@ module _ {c : Core} {due first : ℕ} {lent : List ℕ} {w : Wave} {s : Scale} {
           done = suc f.done;
           core = core_is;
           ok = ran-ok;
-          table = f.table;
           wave = ran-wave;
           scale = f.scale;
           place = omega (arith, f.place);
@@ -209,10 +205,10 @@ module _ {c : Core} {due first : ℕ} {lent : List ℕ} {w : Wave} {s : Scale} {
         }
 
 -- a run that goes on no more has a word, and its last gate
-pub running-end : {c : Core} {due first : ℕ} {lent : List ℕ} {w : Wave} {s : Scale} {out₀ out : List ℕ} {g : Generators} {accumulator start gate ticks i : ℕ}
-    → {again : Bool} → Running c due first lent w s out₀ out g accumulator start gate ticks i again → again ≡ false
+pub running-end : {c : Core} {due first : ℕ} {w : Wave} {s : Scale} {out₀ out : List ℕ} {g : Generators} {accumulator start gate ticks i : ℕ}
+    → {again : Bool} → Running c due first w s out₀ out g accumulator start gate ticks i again → again ≡ false
     → Runs c due first out₀ out (record { generators = g; accumulator = accumulator; start = start; gate = gate; ticks = ticks; next = i })
-running-end {c} {due} {first} {lent} {w} {s} {out₀} {out} {g} {accumulator} {start} {gate} {ticks} {i} f t = ends f.done refl
+running-end {c} {due} {first} {w} {s} {out₀} {out} {g} {accumulator} {start} {gate} {ticks} {i} f t = ends f.done refl
   where
     ends : (n : ℕ) → f.done ≡ n → Runs c due first out₀ out (record { generators = g; accumulator = accumulator; start = start; gate = gate; ticks = ticks; next = i })
     ends zero e = absurd (false-is-not (sym t ∙ f.begun e))

@@ -2,7 +2,6 @@
 #![tactic(auto)]
 
 ghost use Rattle.std.specs.Prelude.{◌≡◌, true, ◌+◌, ◌*◌, ◌-◌, ◌^◌, ◌≤◌, ◌<◌, length};
-ghost use Rattle.tables.specs.Levels.{levels};
 ghost use Rattle.envelope_wave.specs.Wave.{wave_of};
 ghost use Rattle.level_scale.specs.Scale.{scale_of};
 ghost use Rattle.chip.specs.Range.{CoreInRange};
@@ -30,14 +29,12 @@ pub struct Run {
 pub fn run_words(
     core: Core,
     due: u64,
-    table: &[u16; 32],
     wave: Wave,
     scale: Scale,
     out: &mut [u16],
     first: usize,
 ) -> Run
     requires core_in_range { CoreInRange core }
-    requires table_value { table.now ≡ levels }
     requires wave_value { wave ≡ wave_of (offset_in core) }
     requires scale_value { scale ≡ scale_of core.variant }
     requires first_in_bounds { (first < length out.old) × (length out.old ≤ 65536) }
@@ -54,6 +51,7 @@ pub fn run_words(
     let mut ticks: u64 = 0;
     let mut i = first;
     let mut more = true;
+    // no `for`: the first word is filled unasked, and only then is it known whether there is one more
     while more {
         let ran = clocking_ticks::run_ticks(
             generators,
@@ -74,7 +72,6 @@ pub fn run_words(
             clocking_word::halves_of(generators),
             scale.used(level),
             gate,
-            table,
         );
         i = i + 1;
         more = goes_on(i < out.len(), due, start, clocks.cycles);

@@ -42,6 +42,7 @@ pub fn run_ticks(
     let mut gap = internal - accumulator;
     let mut gathered: u32 = 0;
     let mut n: u32 = 0;
+    // 01 asks for this form: "a loop whose break yields the gathered gate and the remaining accumulator"
     let taken = loop {
         turning = turning.tick();
         gathered = gathered | gates.gate(turning.edges, turning.output);

@@ -2,7 +2,6 @@
 #![tactic(auto)]
 
 ghost use Rattle.std.specs.Prelude.{◌≡◌, ◌+◌, ◌^◌, ◌<◌};
-ghost use Rattle.tables.specs.Levels.{levels};
 ghost use Rattle.envelope.specs.Range.{EnvelopeInRange};
 ghost use Rattle.queue.specs.Waiting.{ring, QueueInRange};
 ghost use Rattle.chip.specs.Range.{CoreInRange};
@@ -24,20 +23,18 @@ pub struct Worded {
     pub ticks: u32,
 }
 
-// One word by itself. The ring and the levels are lent: a word copies neither.
-pub fn word<'t, 'l>(
+// One word by itself. The ring is lent: a word does not copy it.
+pub fn word<'t>(
     core: Core,
     stamps: &'t [u64; 256],
     registers: &'t [u8; 256],
     values: &'t [u8; 256],
     head: usize,
     count: usize,
-    table: &'l [u16; 32],
 ) -> Worded
     requires core_in_range { CoreInRange core }
     requires queue_in_range { QueueInRange (ring stamps.now registers.now values.now head count) }
     requires cycles_bound { core.start + core.clocks.cycles < 2 ^ 64 }
-    requires table_value { table.now ≡ levels }
     ensures { result ≡ small_of (word_of core (ring stamps.now registers.now values.now head count)) }
 {
     let end = core.start + core.clocks.cycles;
@@ -52,7 +49,7 @@ pub fn word<'t, 'l>(
     );
     let generators = ran.generators;
     voice.generators = generators;
-    let mixed = mix_word(core.variant, core.channels, voice, ran.gate, table);
+    let mixed = mix_word(core.variant, core.channels, voice, ran.gate);
     let channels = mixed.channels;
     let mut next = core;
     next.voice = voice;
@@ -68,34 +65,24 @@ pub fn word<'t, 'l>(
     }
 }
 
-// The level is looked up once, from the gate of all ticks.
-fn mix_word(variant: u8, channels: Channels, voice: Voice, gate: u32, table: &[u16; 32]) -> Mixed
+// The level is looked up once, from the gate of all ticks. Marked as `mixer::mix` is.
+#[inline(always)]
+fn mix_word(variant: u8, channels: Channels, voice: Voice, gate: u32) -> Mixed
     requires envelope_in_range { EnvelopeInRange voice.generators.envelope }
-    requires table_value { table.now ≡ levels }
     ensures { result ≡ mixed_of variant channels voice gate }
 {
     let level = voice.generators.envelope.level();
     let volumes = volumes_of(voice);
     let halves = halves_of(voice.generators);
-    mixer::mix(variant, channels, volumes, halves, level, gate, table)
+    mixer::mix(variant, channels, volumes, halves, level, gate)
 }
 
 // What the channels keep of it, where the word's value is known.
-pub fn kept_of_word(
-    variant: u8,
-    channels: Channels,
-    voice: Voice,
-    gate: u32,
-    table: &[u16; 32],
-) -> Channels
+pub fn kept_of_word(variant: u8, channels: Channels, voice: Voice, gate: u32) -> Channels
     requires envelope_in_range { EnvelopeInRange voice.generators.envelope }
-    requires table_value { table.now ≡ levels }
     ensures { result ≡ (mixed_of variant channels voice gate).channels }
 {
-    let level = voice.generators.envelope.level();
-    let volumes = volumes_of(voice);
-    let halves = halves_of(voice.generators);
-    mixer::kept(variant, channels, volumes, halves, level, gate, table)
+    mix_word(variant, channels, voice, gate).channels
 }
 
 // R8 to R10.

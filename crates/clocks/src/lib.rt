@@ -2,37 +2,37 @@
 #![tactic(auto)]
 
 ghost use Rattle.std.specs.Prelude.{◌≡◌};
-ghost use Rattle.clocks.specs.Clocks.{clocks_no, master_no, rate_no};
+ghost use Rattle.clocks.specs.Clocks.{accept_clocks, accept_master, accept_rate};
+
+use refusals::Refusal;
 
 pub const HIGHEST_MASTER_CLOCK: u64 = 1_073_741_823;
 
-pub fn clocks_no(master: u32, rate: u32) -> u8
-    ensures { result ≡ clocks_no master rate }
+#[tactic(auto, unfolding(crate::specs::Clocks::accept_clocks))]
+pub fn accept_clocks(master: u32, rate: u32) -> Result<(), Refusal>
+    ensures { result ≡ accept_clocks master rate }
 {
-    let no = master_no(master as u64);
-    if no != refusals::ACCEPTED {
-        return no;
-    }
-    rate_no(master as u64, rate as u64)
+    accept_master(master as u64)?;
+    accept_rate(master as u64, rate as u64)
 }
 
-pub fn master_no(master: u64) -> u8
-    ensures { result ≡ master_no master }
+pub fn accept_master(master: u64) -> Result<(), Refusal>
+    ensures { result ≡ accept_master master }
 {
     if master > HIGHEST_MASTER_CLOCK {
-        return refusals::MASTER_TOO_HIGH;
+        return Err(Refusal::MasterTooHigh);
     }
-    refusals::ACCEPTED
+    Ok(())
 }
 
-pub fn rate_no(master: u64, rate: u64) -> u8
-    ensures { result ≡ rate_no master rate }
+pub fn accept_rate(master: u64, rate: u64) -> Result<(), Refusal>
+    ensures { result ≡ accept_rate master rate }
 {
     if rate == 0 {
-        return refusals::RATE_ZERO;
+        return Err(Refusal::RateZero);
     }
     if rate > master / 8 {
-        return refusals::RATE_TOO_HIGH;
+        return Err(Refusal::RateTooHigh);
     }
-    refusals::ACCEPTED
+    Ok(())
 }

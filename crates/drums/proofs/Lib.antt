@@ -1,4 +1,2 @@
 pub mod Laws
 pub mod Ranges
-pub mod Fields
-pub mod Pattern

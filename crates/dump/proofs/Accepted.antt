@@ -4,17 +4,20 @@ use mathlib.Core.Path.{◌≡◌, refl, ap}
 use mathlib.Core.List.{List}
 use Prim.Native.Nat.{ℕ, zero, suc, ◌+◌, ◌/◌, ◌≤◌, ◌<◌}
 use native.Mathlib.Omega.{arith}
-use Rattle.laws.proofs.Tests.{by_cond, by-lt}
+use Rattle.std.specs.Prelude.{Result, Ok, Err}
+use Rattle.laws.proofs.Tests.{by_cond}
+use Rattle.refusals.specs.declared.Refusal.{Refusal}
 use Rattle.text_lines.specs.Bytes.{bytes}
 use Rattle.text_lines.specs.Lines.{line_at}
 use Rattle.text_entries.specs.Entries.{line_entry_at}
-use Rattle.dump_lines.specs.OneLine.{words_line_no, frames_line_no, frame_at}
-use Rattle.dump_clocks.specs.Clocks.{clock_lines}
-use Rattle.dump_clocks.specs.declared.ClockLines.{ClockLines}
-use Rattle.dump_clocks.proofs.Paced.{Paced, accepted-paced}
-use Rattle.dump.specs.Checked.{accepted_with, frames_from, sized, verdict_of}
-use Rattle.dump.specs.declared.Verdict.{Verdict}
+use Rattle.dump_lines.specs.OneLine.{words_line, frames_line, frame_at}
 use Rattle.dump_lines.proofs.Ranges.{words-range, frames-range}
+use Rattle.dump_clocks.specs.Clocks.{at_line, and_then, clock_lines}
+use Rattle.dump_clocks.specs.declared.ClockLines.{ClockLines}
+use Rattle.dump_clocks.specs.declared.LineRefused.{LineRefused}
+use Rattle.dump_clocks.proofs.Paced.{Paced, numbered, accepted-paced}
+use Rattle.dump.specs.Checked.{frames_from, sized, checked, Verdict, told, verdict_of}
+use Rattle.dump.specs.declared.Dump.{Dump}
 
 -- the place of the line f lines on
 abbrev pub place_from : List ℕ → ℕ → ℕ → ℕ
@@ -26,6 +29,7 @@ pub record Laid (t : List ℕ) (r : Verdict) : Type 0 where
   pub some : 0 < r.rate
   pub slow : r.rate ≤ r.master / 8
   pub words : r.words ≤ 4096
+  pub any : 0 < r.words
   pub frames : r.frames ≤ 1900
   pub frame : (f : ℕ) → f < r.frames → frame_at t (place_from t r.body f) ≡ true
 
@@ -34,45 +38,60 @@ place-on : (t : List ℕ) (at f : ℕ) → place_from t (line_at t at).next f �
 place-on t at zero = refl
 place-on t at (suc f) = ap (λ (p : ℕ). (line_at t p).next) (place-on t at f)
 
-record Run (t : List ℕ) (good : Verdict) (k at : ℕ) (v : Verdict) : Type 0 where
-  same : v ≡ good
-  frame : (f : ℕ) → f < k → frame_at t (place_from t at f) ≡ true
+abbrev Formed : List ℕ → ℕ → ℕ → Type 0
+Formed t at k = (f : ℕ) → f < k → frame_at t (place_from t at f) ≡ true
 
-run : (t : List ℕ) (good : Verdict) (k line at : ℕ) → (frames_from t good k line at).no ≡ 0 → Run t good k at (frames_from t good k line at)
+one_more : (t : List ℕ) (at k : ℕ) → frame_at t at ≡ true → Formed t (line_at t at).next k → Formed t at (suc k)
+one_more t at k g more zero h = g
+one_more t at k g more (suc f) h = rw (← place-on t at f) (more f (omega arith))
+
+formed : (t : List ℕ) (k line at : ℕ) → frames_from t k line at ≡ Ok tt → Formed t at k
 unfolding frames_from
-run t good zero line at =
-    by-lt (λ (v : Verdict). v.no ≡ 0 → Run t good 0 at v) at _ (λ o e. absurd (omega arith))
-    (λ o e. record { same = refl; frame = λ f g. absurd (omega arith) })
-run t good (suc k) line at =
-    by_cond (λ (v : Verdict). v.no ≡ 0 → Run t good (suc k) at v) (frame_at t at) _ _
-    (λ g e. let r = run t good k (line + 1) (line_at t at).next e in record { same = r.same; frame = one_more t at k g r.frame })
-    (λ g e. absurd (omega arith))
-  where
-    one_more : (t : List ℕ) (at k : ℕ) → frame_at t at ≡ true → ((f : ℕ) → f < k → frame_at t (place_from t (line_at t at).next f) ≡ true)
-        → (f : ℕ) → f < suc k → frame_at t (place_from t at f) ≡ true
-    one_more t at k g more zero h = g
-    one_more t at k g more (suc f) h = rw (← place-on t at f) (more f (omega arith))
+formed t zero line at = λ e f h. absurd (omega arith)
+formed t (suc k) line at =
+    by_cond (λ (v : Result (Unit {0}) LineRefused). v ≡ Ok tt → Formed t at (suc k)) (frame_at t at) _ _
+    (λ g e. one_more t at k g (formed t k (line + 1) (line_at t at).next e)) (λ g e. cc)
 
--- a refusal's number is the one that its test found above 0
-refused-not : {v : Verdict} {n : ℕ} (t : List ℕ) → 0 < n → n ≡ 0 → Laid t v
-refused-not t h e = absurd (omega arith)
+-- what is read after a line is read, of a whole that is accepted
+pub ok_then : {T U E P : Type 0} (r : Result T E) (next : T → Result U E) (y : U) → and_then r next ≡ Ok y → ((x : T) → r ≡ Ok x → next x ≡ Ok y → P) → P
+ok_then (Ok x) next y e f = f x refl e
+ok_then (Err x) next y e f = cc
 
-sized-laid : (t : List ℕ) (k : ClockLines) → Paced k → (sized t k).no ≡ 0 → Laid t (sized t k)
-unfolding sized
-sized-laid t k p =
+pub ok-line : {T : Type 0} (r : Result T Refusal) (line : ℕ) (x : T) → at_line r line ≡ Ok x → r ≡ Ok x
+ok-line (Ok y) line x e = cc
+ok-line (Err y) line x e = cc
+
+same_laid : (t : List ℕ) {c d : Dump} → ◌≡◌ {A = Result Dump LineRefused} (Ok c) (Ok d) → Laid t (told (Ok c)) → Laid t (told (Ok d))
+same_laid t {c} {d} e l = let q : d ≡ c = cc in rw q l
+
+sized-laid : (t : List ℕ) (k : ClockLines) → Paced k → (d : Dump) → sized t k ≡ Ok d → Laid t (told (Ok d))
+unfolding sized told
+sized-laid t k p d e =
     let three = line_entry_at (bytes "words=") t k.third in
     let four = line_entry_at (bytes "frames=") t k.fourth in
-    let good = accepted_with k.master k.rate three.value four.value four.next in
-    by-lt (λ (v : Verdict). v.no ≡ 0 → Laid t v) 0 (words_line_no three) (λ h e. refused-not t h e)
-    (λ h. by-lt (λ (v : Verdict). v.no ≡ 0 → Laid t v) 0 (frames_line_no four) (λ g e. refused-not t g e)
-    (λ g e.
-    let r = run t good four.value 5 four.next e in
-    rw r.same
-    (record { top = p.top; some = p.some; slow = p.slow; words = (words-range three h).1; frames = (frames-range four g).1; frame = r.frame })))
+    ok_then (at_line (words_line three.value) 3) _ d e
+    (λ words w e. ok_then (at_line (frames_line four.value) 4) _ d e
+    (λ frames f e. ok_then (frames_from t frames 5 four.next) _ d e
+    (λ _ g e. same_laid t e
+    (record {
+      top = p.top;
+      some = p.some;
+      slow = p.slow;
+      words = (words-range three.value words (ok-line _ 3 words w)).1;
+      any = (words-range three.value words (ok-line _ 3 words w)).0;
+      frames = frames-range four.value frames (ok-line _ 4 frames f);
+      frame = formed t frames 5 four.next g;
+    }))))
+
+pub checked-laid : (t : List ℕ) (d : Dump) → checked t ≡ Ok d → Laid t (told (Ok d))
+unfolding checked
+checked-laid t d e = ok_then (clock_lines t) (sized t) d e (λ k c s. sized-laid t k (accepted-paced t k c) d s)
+
+-- what the numbers of a check say of an accepted one holds where the number is 0
+pub where_accepted : (P : Verdict → Type 0) (r : Result Dump LineRefused) → ((d : Dump) → r ≡ Ok d → P (told (Ok d))) → (told r).no ≡ 0 → P (told r)
+unfolding told
+where_accepted P (Ok d) f e = f d refl
+where_accepted P (Err x) f e = absurd (omega (arith, (numbered x.why).0))
 
 pub accepted-laid : (t : List ℕ) → (verdict_of t).no ≡ 0 → Laid t (verdict_of t)
-unfolding verdict_of
-accepted-laid t =
-    let k = clock_lines t in
-    by-lt (λ (v : Verdict). v.no ≡ 0 → Laid t v) 0 k.no (λ h e. refused-not t h e)
-    (λ h. sized-laid t k (accepted-paced t (omega (arith, h))))
+accepted-laid t = where_accepted (Laid t) (checked t) (checked-laid t)

@@ -1,28 +1,36 @@
--- What was read of the frames' lines tells the verdict: a law for each of `all_frames`' returns. Assumes nothing.
+-- What was read of the frames' lines tells the answer: a law for each of `all_frames`' returns. Assumes nothing.
 use mathlib.Core.Bool.{cond}
-use mathlib.Core.Path.{◌≡◌, sym, ◌∙◌, ap}
+use mathlib.Core.Path.{◌≡◌, ◌∙◌, ap}
 use mathlib.Core.List.{List}
-use Prim.Native.Nat.{ℕ, zero, suc, ◌+◌, ◌≤◌, ◌<◌}
+use Prim.Native.Nat.{ℕ, zero, suc, ◌+◌}
 use native.Mathlib.Omega.{arith}
 use borrow.Author.Tests.{lt-ltb, le-ltb}
 use lib.Dec.{ltb}
 use lib.ListN.{length}
+use Rattle.std.specs.Prelude.{Result, Ok, Err}
 use Rattle.laws.proofs.Tests.{by_cond}
-use Rattle.refusals.specs.Numbers.{line_not_of_form, bytes_after_the_end}
+use Rattle.refusals.specs.declared.Refusal.{Refusal}
+use Rattle.refusals.specs.declared.Refusal.TheVariants.{LineNotOfForm, BytesAfterTheEnd}
 use Rattle.text_lines.specs.Lines.{line_at}
 use Rattle.dump_lines.specs.OneLine.{frame_at}
-use Rattle.dump.specs.Checked.{refused_at, frames_from}
+use Rattle.dump_clocks.specs.declared.LineRefused.{LineRefused}
+use Rattle.dump.specs.Checked.{frames_from}
 use Rattle.dump_body.specs.Frames.{frames_read}
 use Rattle.dump_body.specs.declared.FramesRead.{FramesRead}
-use Rattle.dump.specs.declared.Verdict.{Verdict}
 
-module _ (t : List ℕ) (good : Verdict) (n : ℕ) where
-  -- the verdict on n lines, of which the first `count` have their form; the last one read ends at p
-  abbrev told : ℕ → ℕ → Verdict
-  told count p = cond (ltb count n) (refused_at line_not_of_form (5 + count)) (cond (ltb p (length t)) (refused_at bytes_after_the_end (5 + n)) good)
+abbrev Framed : Type 0
+Framed = Result (Unit {0}) LineRefused
+
+abbrev refused_at : Refusal → ℕ → Framed
+refused_at why line = Err (record { why = why; line = line })
+
+module _ (t : List ℕ) (n : ℕ) where
+  -- the answer on n lines, of which the first `count` have their form; the last one read ends at p
+  abbrev answer : ℕ → ℕ → Framed
+  answer count p = cond (ltb count n) (refused_at LineNotOfForm (5 + count)) (cond (ltb p (length t)) (refused_at BytesAfterTheEnd (5 + n)) (Ok tt))
 
   -- i lines are read, and k are left
-  tells : (k i p : ℕ) → i + k ≡ n → frames_from t good k (5 + i) p ≡ told (i + (frames_read t k p).count) (frames_read t k p).at
+  tells : (k i p : ℕ) → i + k ≡ n → frames_from t k (5 + i) p ≡ answer (i + (frames_read t k p).count) (frames_read t k p).at
   unfolding frames_from frames_read
   tells zero i p e =
       let s : i ≡ n = omega (arith, e) in
@@ -34,20 +42,11 @@ module _ (t : List ℕ) (good : Verdict) (n : ℕ) where
       let s : 5 + i + 1 ≡ 5 + (i + 1) = omega arith in
       let z : i + 0 ≡ i = omega arith in
       let a : i + 1 + more.count ≡ i + (1 + more.count) = omega arith in
-      by_cond (λ (v : Verdict). v ≡ told (i + (frames_read t (suc k) p).count) (frames_read t (suc k) p).at) (frame_at t p) _ _
-      (λ g. rw (g, s) (tells k (i + 1) next (omega (arith, e)) ∙ ap (λ (m : ℕ). told m more.at) a)) (λ g. rw (g, z, lt-ltb i n (omega (arith, e))))
+      by_cond (λ (v : Framed). v ≡ answer (i + (frames_read t (suc k) p).count) (frames_read t (suc k) p).at) (frame_at t p) _ _
+      (λ g. rw (g, s) (tells k (i + 1) next (omega (arith, e)) ∙ ap (λ (m : ℕ). answer m more.at) a)) (λ g. rw (g, z, lt-ltb i n (omega (arith, e))))
 
-module _ (t : List ℕ) (good : Verdict) (frames body : ℕ) {r : FramesRead} (q : r ≡ frames_read t frames body) where
-  whole : told t good frames r.count r.at ≡ frames_from t good frames 5 body
+module _ (t : List ℕ) (frames body : ℕ) {r : FramesRead} (q : r ≡ frames_read t frames body) where
+  pub whole : frames_from t frames 5 body ≡ answer t frames r.count r.at
   whole =
-      let z : (frames_read t frames body).count ≡ 0 + (frames_read t frames body).count = omega arith in
-      rw q (ap (λ (m : ℕ). told t good frames m (frames_read t frames body).at) z ∙ sym (tells t good frames frames 0 body (omega arith)))
-
-  pub frame-bad : r.count < frames → {v : Verdict} → v ≡ refused_at line_not_of_form (5 + r.count) → v ≡ frames_from t good frames 5 body
-  frame-bad h p = p ∙ (rw (lt-ltb r.count frames h) at whole)
-
-  pub frames-over : frames ≤ r.count → r.at < length t → {v : Verdict} → v ≡ refused_at bytes_after_the_end (5 + frames) → v ≡ frames_from t good frames 5 body
-  frames-over h o p = p ∙ (rw (le-ltb r.count frames h, lt-ltb r.at (length t) o) at whole)
-
-  pub frames-end : frames ≤ r.count → length t ≤ r.at → good ≡ frames_from t good frames 5 body
-  frames-end h o = rw (le-ltb r.count frames h, le-ltb r.at (length t) o) at whole
+      let z : 0 + (frames_read t frames body).count ≡ (frames_read t frames body).count = omega arith in
+      rw q (tells t frames frames 0 body (omega arith) ∙ ap (λ (m : ℕ). answer t frames m (frames_read t frames body).at) z)

@@ -2,18 +2,16 @@
 #![tactic(auto)]
 
 ghost use Rattle.std.specs.Prelude.{◌≡◌};
-ghost use Rattle.dump.specs.Checked.{frames_from, refused_at, sized, verdict_of};
+ghost use Rattle.dump.specs.Checked.{checked, frames_from};
 
-use dump_clocks::{ClockLines, clock_lines};
-use dump_lines::{frames_line_no, words_line_no};
+use dump_clocks::{LineRefused, at_line, clock_lines};
+use dump_lines::{frames_line, words_line};
+use refusals::Refusal;
 use text_entries::line_entry_at;
 
-// `no` 0 is accepted: `line` is 0, and `body` is the place of the first frame's line.
-// Any other number is 01's refusal, at `line`, and the rest is 0.
-#[derive(Clone, Copy)]
-pub struct Verdict {
-    pub no: u8,
-    pub line: u32,
+// What the header of an accepted dump says; `body` is the place of the first frame's line.
+#[derive(Clone, Copy, Debug, PartialEq, Eq)]
+pub struct Dump {
     pub master: u32,
     pub rate: u32,
     pub words: u16,
@@ -21,65 +19,44 @@ pub struct Verdict {
     pub body: usize,
 }
 
-pub fn check(text: &[u8]) -> Verdict
-    ensures { result ≡ verdict_of text.now }
-{
-    let clocks = clock_lines(text);
-    if clocks.no > 0 {
-        return refused(clocks.no, clocks.line);
-    }
-    sizes(text, clocks)
-}
+// What a player of a refused dump plays: no frames.
+pub const NO_DUMP: Dump = Dump {
+    master: 0,
+    rate: 0,
+    words: 0,
+    frames: 0,
+    body: 0,
+};
 
-// Lines 3 and 4, and then the frames.
-fn sizes(text: &[u8], clocks: ClockLines) -> Verdict
-    ensures { result ≡ sized text.now clocks }
+#[tactic(auto, unfolding(crate::specs::Checked::checked, crate::specs::Checked::sized))]
+pub fn check(text: &[u8]) -> Result<Dump, LineRefused>
+    ensures { result ≡ checked text.now }
 {
-    let three = line_entry_at(b"words=", text, clocks.third);
-    let third = words_line_no(three);
-    if third > 0 {
-        return refused(third, 3);
-    }
-    let four = line_entry_at(b"frames=", text, clocks.fourth);
-    let fourth = frames_line_no(four);
-    if fourth > 0 {
-        return refused(fourth, 4);
-    }
-    let good = Verdict {
-        no: refusals::ACCEPTED,
-        line: 0,
+    let clocks = clock_lines(text)?;
+    let third = line_entry_at(b"words=", text, clocks.third);
+    let words = at_line(words_line(third.value), 3)?;
+    let fourth = line_entry_at(b"frames=", text, clocks.fourth);
+    let frames = at_line(frames_line(fourth.value), 4)?;
+    all_frames(text, frames, fourth.next)?;
+    Ok(Dump {
         master: clocks.master,
         rate: clocks.rate,
-        words: three.value as u16,
-        frames: four.value as u16,
-        body: four.next,
-    };
-    all_frames(text, good, four.value as u16, four.next)
+        words,
+        frames,
+        body: fourth.next,
+    })
 }
 
-fn all_frames(text: &[u8], good: Verdict, frames: u16, body: usize) -> Verdict
-    ensures { result ≡ frames_from text.now good frames 5 body }
+// The frames' lines, of which line 5 is the first; nothing stands after the last.
+fn all_frames(text: &[u8], frames: u16, body: usize) -> Result<(), LineRefused>
+    ensures { result ≡ frames_from text.now frames 5 body }
 {
     let read = dump_body::frames_read(text, body, frames);
     if read.count < frames {
-        return refused(refusals::LINE_NOT_OF_FORM, 5 + read.count as u32);
+        return at_line(Err(Refusal::LineNotOfForm), 5 + u32::from(read.count));
     }
     if read.at < text.len() {
-        return refused(refusals::BYTES_AFTER_THE_END, 5 + frames as u32);
+        return at_line(Err(Refusal::BytesAfterTheEnd), 5 + u32::from(frames));
     }
-    good
-}
-
-fn refused(number: u8, line: u32) -> Verdict
-    ensures { result ≡ refused_at number line }
-{
-    Verdict {
-        no: number,
-        line: line,
-        master: 0,
-        rate: 0,
-        words: 0,
-        frames: 0,
-        body: 0,
-    }
+    Ok(())
 }

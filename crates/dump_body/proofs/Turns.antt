@@ -25,9 +25,9 @@ module _ (t : List ℕ) (n i p : ℕ) where
       let z : n - i ≡ suc (n - (i + 1)) = omega arith in
       rw (z, e) (recount (line_at t p).next (omega arith))
 
-  pub read_all : n ≤ i → counted i (frames_read t (n - i) p) ≡ record { count = i; at = p }
+  pub read_all : i ≤ n → n ≤ i → counted i (frames_read t (n - i) p) ≡ record { count = n; at = p }
   unfolding frames_read
-  read_all h =
+  read_all l h =
       let z : n - i ≡ 0 = omega arith in
       rw z (recount p (omega arith))
 

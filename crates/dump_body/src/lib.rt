@@ -19,14 +19,14 @@ pub fn frames_read(text: &[u8], body: usize, frames: u16) -> FramesRead
     ensures { result ≡ frames_read text.now frames body }
 {
     let mut r = DumpReader { text, at: body };
-    let mut count: u16 = 0;
-    while count < frames {
+    for count in 0..frames {
         let line = next_line(&mut r);
-        if frame_at(text, line.start) {
-            count += 1;
-        } else {
-            break;
+        if !frame_at(text, line.start) {
+            return FramesRead { count, at: r.at };
         }
     }
-    FramesRead { count, at: r.at }
+    FramesRead {
+        count: frames,
+        at: r.at,
+    }
 }

@@ -1,66 +1,41 @@
--- What stands at the reader's places is what `clock_lines` reads: a law for each return of `clock_lines`. Assumes nothing.
+-- What stands at the reader's places is what `clock_lines` reads. Assumes nothing.
 use mathlib.Core.Path.{◌≡◌, sym, ◌∙◌, ap}
 use mathlib.Core.List.{List}
-use Prim.Native.Nat.{ℕ, ◌≤◌, ◌<◌}
+use Prim.Native.Nat.{ℕ, ◌≤◌}
+use borrow.Author.Tests.{le-ltb}
 use lib.ListN.{length}
-use Rattle.laws.proofs.Tests.{tests}
-use Rattle.refusals.specs.Numbers.{dump_too_long}
-use Rattle.text_fields.proofs.Called.{called}
+use Rattle.std.specs.Prelude.{Result, Ok}
 use Rattle.text_lines.specs.Bytes.{bytes}
 use Rattle.text_lines.specs.Lines.{line_at}
 use Rattle.text_lines.specs.declared.Line.{Line}
 use Rattle.text_entries.specs.Entries.{line_entry_at}
-use Rattle.text_entries.specs.declared.Entry.{Entry}
 use Rattle.dump_reader.specs.Header.{first_lines}
 use Rattle.dump_reader.specs.declared.FirstLines.{FirstLines}
 use Rattle.dump_reader.proofs.Places.{first-at, second_at, third_at, fourth-at, second_is, third-is}
-use Rattle.dump_lines.specs.OneLine.{master_line_no, rate_line_no}
-use Rattle.dump_clocks.specs.Clocks.{clocks_refused, clock_lines}
+use Rattle.dump_lines.specs.OneLine.{master_line, rate_line}
+use Rattle.dump_clocks.specs.Clocks.{at_line, and_then, clock_lines}
 use Rattle.dump_clocks.specs.declared.ClockLines.{ClockLines}
+use Rattle.dump_clocks.specs.declared.LineRefused.{LineRefused}
 
-module _ (t : List ℕ) where
-  abbrev one : Entry
-  one = line_entry_at (bytes "master=") t 0
+-- the two lines at the places of a reader
+abbrev pub clocks_at : List ℕ → FirstLines → Result ClockLines LineRefused
+clocks_at t lines =
+    and_then (at_line (master_line (line_entry_at (bytes "master=") t lines.one.start).value) 1) (λ master.
+    and_then (at_line (rate_line master (line_entry_at (bytes "rate=") t lines.two.start).value) 2) (λ rate.
+    Ok (record { master = master; rate = rate; third = lines.three.start; fourth = lines.four.start })))
 
-  abbrev two : Entry
-  two = line_entry_at (bytes "rate=") t one.next
+module _ (t : List ℕ) {lines : FirstLines} (w : lines ≡ first_lines t) where
+  at-two : lines.two.start ≡ (line_entry_at (bytes "master=") t 0).next
+  unfolding line_entry_at
+  at-two = second_at t w
 
-  pub too_long : {k : ClockLines} → 65536 < length t → k ≡ clocks_refused dump_too_long 0 → k ≡ clock_lines t
+  at-three : lines.three.start ≡ (line_entry_at (bytes "rate=") t lines.two.start).next
+  unfolding line_entry_at
+  at-three = third_at t w ∙ ap (λ (l : Line). l.next) (second_is t w) ∙ ap (λ (p : ℕ). (line_at t p).next) (sym (second_at t w))
+
+  at-four : lines.four.start ≡ (line_at t lines.three.start).next
+  at-four = fourth-at t w ∙ ap (λ (l : Line). l.next) (third-is t w) ∙ ap (λ (p : ℕ). (line_at t p).next) (sym (third_at t w))
+
+  pub reads : length t ≤ 65536 → clock_lines t ≡ clocks_at t lines
   unfolding clock_lines
-  too_long h r = search (tests, called)
-
-  module _ {lines : FirstLines} (w : lines ≡ first_lines t) where
-    -- where each line starts
-    at-two : lines.two.start ≡ one.next
-    unfolding line_entry_at
-    at-two = second_at t w
-
-    at-three : lines.three.start ≡ two.next
-    unfolding line_entry_at
-    at-three = third_at t w ∙ ap (λ (l : Line). l.next) (second_is t w)
-
-    at-four : lines.four.start ≡ (line_at t two.next).next
-    unfolding line_entry_at
-    at-four = fourth-at t w ∙ ap (λ (l : Line). l.next) (third-is t w) ∙ ap (λ (l : Line). (line_at t l.next).next) (second_is t w)
-
-    -- the text read up to a line: the numbers of the lines before it are 0
-    module _ {a : Entry} {n₁ : ℕ} (z : length t ≤ 65536) (e₁ : a ≡ line_entry_at (bytes "master=") t lines.one.start) (p₁ : n₁ ≡ master_line_no a) where
-      first : a ≡ one
-      first = e₁ ∙ ap (line_entry_at (bytes "master=") t) (first-at t w)
-
-      pub at-line-1 : {k : ClockLines} → 0 < n₁ → k ≡ clocks_refused n₁ 1 → k ≡ clock_lines t
-      unfolding clock_lines
-      at-line-1 g r = rw (← first, ← p₁) (search (tests, called))
-
-      module _ {b : Entry} {n₂ : ℕ} (g₁ : n₁ ≤ 0) (e₂ : b ≡ line_entry_at (bytes "rate=") t lines.two.start) (p₂ : n₂ ≡ rate_line_no a.value b) where
-        second : b ≡ line_entry_at (bytes "rate=") t a.next
-        second = e₂ ∙ ap (line_entry_at (bytes "rate=") t) (at-two ∙ ap (λ (e : Entry). e.next) (sym first))
-
-        pub at-line-2 : {k : ClockLines} → 0 < n₂ → k ≡ clocks_refused n₂ 2 → k ≡ clock_lines t
-        unfolding clock_lines
-        at-line-2 g r = rw (← first, ← p₁, ← second, ← p₂) (search (tests, called))
-
-        pub past-clocks : n₂ ≤ 0
-            → ◌≡◌ {A = ClockLines} (record { no = 0; line = 0; master = a.value; rate = b.value; third = lines.three.start; fourth = lines.four.start }) (clock_lines t)
-        unfolding clock_lines
-        past-clocks g = rw (at-three, at-four, ← first, ← p₁, ← second, ← p₂) (search (tests, called))
+  reads h = rw (le-ltb 65536 (length t) h, at-four, at-three, at-two, first-at t w)

@@ -4,7 +4,8 @@
 ghost use Rattle.std.specs.Prelude.{◌≡◌, length, replicate};
 ghost use Rattle.dump_input.specs.Enough.{enough};
 
-// One byte past the longest dump: what does not fit need not be read.
+// One byte past the longest dump: what does not fit need not be read. (`notes_output::room` differs in its size; the size as a parameter would
+// have each caller say it.)
 pub fn room() -> [u8; 65537]
     ensures zeros { result ≡ replicate enough 0 }
     ensures long { enough ≡ length result }

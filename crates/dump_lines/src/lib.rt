@@ -2,59 +2,55 @@
 #![tactic(auto)]
 
 ghost use Rattle.std.specs.Prelude.{◌≡◌};
-ghost use Rattle.dump_lines.specs.OneLine.{frame_at, frames_line_no, is_frame, master_line_no, rate_line_no, words_line_no};
+ghost use Rattle.dump_lines.specs.OneLine.{frame_at, frames_line, is_frame, master_line, rate_line, words_line};
 
-use text_entries::Entry;
+use refusals::Refusal;
 
 pub const MOST_WORDS: u64 = 4_096;
 
 pub const MOST_FRAMES: u64 = 1_900;
 
-pub fn master_line_no(e: Entry) -> u8
-    ensures { result ≡ master_line_no e }
+#[tactic(auto, unfolding(crate::specs::OneLine::master_line))]
+pub fn master_line(value: Option<u64>) -> Result<u32, Refusal>
+    ensures { result ≡ master_line value }
 {
-    if e.bad {
-        return refusals::LINE_NOT_OF_FORM;
-    }
-    clocks::master_no(e.value)
+    let master = value.ok_or(Refusal::LineNotOfForm)?;
+    clocks::accept_master(master)?;
+    Ok(master as u32)
 }
 
-pub fn rate_line_no(master: u64, e: Entry) -> u8
-    ensures { result ≡ rate_line_no master e }
+#[tactic(auto, unfolding(crate::specs::OneLine::rate_line))]
+pub fn rate_line(master: u64, value: Option<u64>) -> Result<u64, Refusal>
+    ensures { result ≡ rate_line master value }
 {
-    if e.bad {
-        return refusals::LINE_NOT_OF_FORM;
-    }
-    clocks::rate_no(master, e.value)
+    let rate = value.ok_or(Refusal::LineNotOfForm)?;
+    clocks::accept_rate(master, rate)?;
+    Ok(rate)
 }
 
-pub fn words_line_no(e: Entry) -> u8
-    ensures { result ≡ words_line_no e }
+#[tactic(auto, unfolding(crate::specs::OneLine::words_line))]
+pub fn words_line(value: Option<u64>) -> Result<u16, Refusal>
+    ensures { result ≡ words_line value }
 {
-    if e.bad {
-        return refusals::LINE_NOT_OF_FORM;
+    let words = value.ok_or(Refusal::LineNotOfForm)?;
+    if words == 0 || words > MOST_WORDS {
+        return Err(Refusal::SizeOutOfRange);
     }
-    if e.value == 0 {
-        return refusals::SIZE_OUT_OF_RANGE;
-    }
-    if e.value > MOST_WORDS {
-        return refusals::SIZE_OUT_OF_RANGE;
-    }
-    refusals::ACCEPTED
+    Ok(words as u16)
 }
 
-pub fn frames_line_no(e: Entry) -> u8
-    ensures { result ≡ frames_line_no e }
+#[tactic(auto, unfolding(crate::specs::OneLine::frames_line))]
+pub fn frames_line(value: Option<u64>) -> Result<u16, Refusal>
+    ensures { result ≡ frames_line value }
 {
-    if e.bad {
-        return refusals::LINE_NOT_OF_FORM;
+    let frames = value.ok_or(Refusal::LineNotOfForm)?;
+    if frames > MOST_FRAMES {
+        return Err(Refusal::SizeOutOfRange);
     }
-    if e.value > MOST_FRAMES {
-        return refusals::SIZE_OUT_OF_RANGE;
-    }
-    refusals::ACCEPTED
+    Ok(frames as u16)
 }
 
+#[tactic(auto, unfolding(crate::specs::OneLine::frame_at))]
 pub fn frame_at(text: &[u8], at: usize) -> bool
     ensures { result ≡ frame_at text.now at }
 {
@@ -62,11 +58,9 @@ pub fn frame_at(text: &[u8], at: usize) -> bool
 }
 
 // The value of a frame's line: 28 lower-case hex digits.
+#[tactic(auto, unfolding(crate::specs::OneLine::is_frame))]
 pub fn is_frame(value: &[u8]) -> bool
     ensures { result ≡ is_frame value.now }
 {
-    if value.len() == 28 {
-        return text_fields::all_hex(value);
-    }
-    false
+    value.len() == 28 && text_fields::all_hex(value)
 }

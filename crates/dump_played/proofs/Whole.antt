@@ -18,14 +18,14 @@ use Rattle.chip.specs.declared.Chip.{Chip}
 use Rattle.clocking_word.specs.Word.{word_of}
 use Rattle.clocking_block.specs.Block.{after_one, after_words}
 use Rattle.chip.proofs.InRange.{InRange, passes, core-runs}
-use Rattle.clocks.specs.Clocks.{clocks_no}
+use Rattle.clocks.specs.Clocks.{accept_clocks, clocks_no}
 use Rattle.chip.specs.Clocks.{clocks_of}
 use Rattle.answers.specs.Answers.{answered}
 use Rattle.answers.specs.declared.Answered.{Answered}
 use Rattle.answers.specs.declared.Blocked.{Blocked}
 use Rattle.calls_making.specs.Making.{with_clocks, made_of, default_variant, fresh}
 use Rattle.calls_words.specs.Blocks.{block_no, block_played, blocked, block_buffer}
-use Rattle.block_limits.specs.Limits.{block_number}
+use Rattle.block_limits.specs.Limits.{accept_block, block_number}
 use Rattle.laws_in_range.proofs.Parts.{voice-kept}
 use Rattle.laws_in_range.proofs.CallsInRange.{with-clocks-kept, words-kept}
 use Rattle.dump_writes.specs.Writes.{frame_writes}
@@ -130,7 +130,7 @@ module _ (t : List ℕ) (ok : (verdict_of t).no ≡ 0) (f : ℕ) (h : f < (verdi
       rw e (omega (arith, all, split, o.start, from-0))
 
   number : block_no n d ≡ 0
-  unfolding block_number
+  unfolding block_number accept_block
   number =
       let l : n ≤ 65536 = let w : n ≤ 4096 = (accepted-laid t ok).words in omega arith in
       rw (le-ltb 65536 n l, lt-leb (2 ^ 64) _ soon)
@@ -152,7 +152,7 @@ module _ (t : List ℕ) (ok : (verdict_of t).no ≡ 0) (f : ℕ) (h : f < (verdi
 -- the dump's clocks are accepted, so its chip is made of them and not of the default ones
 pub makes : (t : List ℕ) → (verdict_of t).no ≡ 0
     → with_clocks (verdict_of t).master (verdict_of t).rate ≡ answered 0 (made_of (clocks_of (verdict_of t).master (verdict_of t).rate) default_variant)
-unfolding with_clocks clocks_no
+unfolding with_clocks clocks_no accept_clocks
 makes t ok =
     let l = accepted-laid t ok in
     let some : (verdict_of t).rate ≡ 0 → ⊥ = λ e. absurd (omega (arith, l.some)) in

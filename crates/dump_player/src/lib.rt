@@ -3,12 +3,14 @@
 
 ghost use Rattle.std.specs.Prelude.{◌≡◌, ◌≤◌, ◌<◌, length};
 ghost use Rattle.text_put.specs.Text.{overlaid};
+ghost use Rattle.dump.specs.Checked.{told};
 ghost use Rattle.dump_output.specs.Printed.{first_line};
 ghost use Rattle.dump_progress.specs.Progress.{words_for};
 ghost use Rattle.dump_player.specs.Player.{bytes_of, first_piece, frame_begun, piece_of, readied, start_of, word_lines, words_piece};
 
 use chip::Chip;
-use dump::Verdict;
+use dump::Dump;
+use dump_clocks::LineRefused;
 use dump_progress::Progress;
 
 // The shortest buffer that is filled: any line that is printed has room in it.
@@ -18,7 +20,7 @@ pub const LEAST_ROOM: usize = 32;
 // been handed out.
 #[derive(Clone, Copy)]
 pub struct Player {
-    pub verdict: Verdict,
+    pub verdict: Result<Dump, LineRefused>,
     pub at: usize,
     pub chip: Chip,
     pub progress: Progress,
@@ -36,18 +38,17 @@ pub fn start(text: &[u8]) -> Player
     ensures { result ≡ start_of text.now }
 {
     let verdict = dump::check(text);
-    let made = calls_making::with_clocks(verdict.master, verdict.rate);
-    let chip = made.chip;
-    let progress = Progress {
-        begun: false,
-        frames: 0,
-        left: 0,
-    };
+    let dump = verdict.unwrap_or(dump::NO_DUMP);
+    let made = calls_making::with_clocks(dump.master, dump.rate);
     Player {
-        verdict: verdict,
-        at: verdict.body,
-        chip: chip,
-        progress: progress,
+        verdict,
+        at: dump.body,
+        chip: made.chip,
+        progress: Progress {
+            begun: false,
+            frames: 0,
+            left: 0,
+        },
     }
 }
 
@@ -70,26 +71,21 @@ pub fn next_piece(player: Player, text: &[u8], out: &mut [u8]) -> Piece
 fn give_first_line(player: Player, out: &mut [u8]) -> Piece
     requires { 32 ≤ length out.old }
     ensures answer { result ≡ first_piece player }
-    ensures buffer { out.new ≡ overlaid out.old 0 (first_line player.verdict) }
+    ensures buffer { out.new ≡ overlaid out.old 0 (first_line (told player.verdict)) }
 {
-    let verdict = player.verdict;
-    let chip = player.chip;
-    let length = dump_output::put_first_line(out, verdict);
+    let length = dump_output::put_first_line(out, player.verdict);
     let progress = dump_progress::first_line_given(player.progress);
-    let player = Player {
-        verdict: verdict,
-        at: player.at,
-        chip: chip,
-        progress: progress,
-    };
-    Piece { player, length }
+    Piece {
+        player: Player { progress, ..player },
+        length,
+    }
 }
 
 fn ready(player: Player, text: &[u8]) -> Player
     ensures { result ≡ readied text.now player }
 {
-    let verdict = player.verdict;
-    if dump_progress::frame_due(player.progress, verdict.frames) {
+    let dump = player.verdict.unwrap_or(dump::NO_DUMP);
+    if dump_progress::frame_due(player.progress, dump.frames) {
         return begin_frame(player, text);
     }
     player
@@ -100,20 +96,18 @@ fn begin_frame(player: Player, text: &[u8]) -> Player
     requires { player.progress.frames < 65535 }
     ensures { result ≡ frame_begun text.now player }
 {
-    let verdict = player.verdict;
-    let chip = player.chip;
-    let loaded = dump_frames::load_frame(chip, text, player.at);
+    let dump = player.verdict.unwrap_or(dump::NO_DUMP);
+    let loaded = dump_frames::load_frame(player.chip, text, player.at);
     if loaded.answer.no != refusals::ACCEPTED {
         return player;
     }
     let line = text_lines::line_at(text, player.at);
-    let written = loaded.chip;
-    let progress = dump_progress::frame_begins(player.progress, verdict.words);
+    let progress = dump_progress::frame_begins(player.progress, dump.words);
     Player {
-        verdict: verdict,
+        verdict: player.verdict,
         at: line.next,
-        chip: written,
-        progress: progress,
+        chip: loaded.chip,
+        progress,
     }
 }
 
@@ -131,20 +125,16 @@ fn give_lines(player: Player, words: &mut [u16], out: &mut [u8]) -> Piece
     ensures answer { result ≡ words_piece (length out.old) player }
     ensures buffer { out.new ≡ overlaid out.old 0 (word_lines (length out.old) player) }
 {
-    let verdict = player.verdict;
-    let chip = player.chip;
     let progress = dump_progress::words_given(player.progress, words.len());
-    let block = calls_words::block(chip, words);
+    let block = calls_words::block(player.chip, words);
     if block.answer.no != refusals::ACCEPTED {
         return Piece { player, length: 0 };
     }
     let length = dump_words::put_words(out, 0, words);
-    let rendered = block.chip;
     let player = Player {
-        verdict: verdict,
-        at: player.at,
-        chip: rendered,
-        progress: progress,
+        chip: block.chip,
+        progress,
+        ..player
     };
     Piece { player, length }
 }

@@ -4,7 +4,7 @@ use mathlib.Core.List.{List, [], ◌∷◌, ◌++◌, append_assoc, append-nil}
 use Prim.Native.Nat.{ℕ, ◌+◌, ◌-◌, ◌*◌, ◌/◌, ◌≤◌, ◌<◌}
 use native.Mathlib.Numerals.{add-one}
 use native.Mathlib.Omega.{arith}
-use borrow.Author.Tests.{le-leb, lt-leb}
+use borrow.Author.Tests.{le-leb}
 use lib.ListN.{length, take, get_or, length-append}
 use lib.Seq.{take-suc, take_all}
 use Rattle.text_put.specs.Text.{number_text, overlaid, laid, place_after}
@@ -14,16 +14,6 @@ use Rattle.text_put.proofs.Spelling.{spelt-few}
 
 abbrev pub Lined : List ℕ → ℕ → List ℕ → ℕ → List ℕ → Type 0
 Lined out at words r after = (r ≡ words_place out at words) × (after ≡ words_laid out at words)
-
-lined-none : (out : List ℕ) (at : ℕ) (words : List ℕ) → length out < at + 6 * length words → Lined out at words at out
-unfolding words_place words_laid
-lined-none out at words h = (rw (lt-leb (at + 6 * length words) (length out) h), rw (lt-leb (at + 6 * length words) (length out) h))
-
-pub lined-outside : (out : List ℕ) (at : ℕ) (words : List ℕ) → length out < at → Lined out at words at out
-lined-outside out at words h = lined-none out at words (omega arith)
-
-pub lined-tight : (out : List ℕ) (at : ℕ) (words : List ℕ) → at ≤ length out → (length out - at) / 6 < length words → Lined out at words at out
-lined-tight out at words h g = lined-none out at words (omega arith)
 
 pub lines_join : (a b : List ℕ) → lines_of (a ++ b) ≡ lines_of a ++ lines_of b
 unfolding lines_of

@@ -44,9 +44,6 @@ pub record Writing (value bytes : List ℕ) (v₀ v : Voice) (i : ℕ) : Type 0 
   pub within : i ≤ 13
   pub rest : applied_in_order (registers_from (13 - i) i (hex_byte value)) v ≡ first 13 value v₀
 
-pub writing_start : {value bytes : List ℕ} (v : Voice) → ((k : ℕ) → k < 14 → get_or bytes k 0 ≡ hex_byte value k) → Writing value bytes v v 0
-writing_start v h = record { held = h; within = omega arith; rest = refl }
-
 module _ {value bytes : List ℕ} {v₀ v : Voice} {i : ℕ} (m : Writing value bytes v₀ v i) where
   pub writing-on : {w : Voice} → i < 13 → w ≡ apply_register i (get_or bytes i 0) v → Writing value bytes v₀ w (i + 1)
   unfolding applied_in_order registers_from

@@ -18,11 +18,8 @@ pub fn write_frame(voice: Voice, value: &[u8]) -> Voice
     // The digits are read first: a loop that reads them too is not unrolled, and slower.
     let bytes = bytes_of(value);
     let mut next = voice;
-    let mut i: u8 = 0;
-    while i < 13 {
-        let at = i as usize;
-        next = next.apply_register(i, bytes[at]);
-        i = i + 1;
+    for register in 0..13 {
+        next = next.apply_register(register, bytes[register as usize]);
     }
     if bytes[13] == 0xff {
         return next;
@@ -46,10 +43,8 @@ fn bytes_of(value: &[u8]) -> [u8; 14]
     ensures { (i : ℕ) → i < 14 → get_or result i 0 ≡ hex_byte value.now i }
 {
     let mut bytes = [0u8; 14];
-    let mut i = 0;
-    while i < 14 {
-        bytes[i] = text_fields::hex_byte(value, i);
-        i += 1;
+    for (i, byte) in bytes.iter_mut().enumerate() {
+        *byte = text_fields::hex_byte(value, i);
     }
     bytes
 }

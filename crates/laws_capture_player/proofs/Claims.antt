@@ -10,7 +10,7 @@ use Rattle.laws.proofs.Tests.{by_order}
 use Rattle.dump_clocks.specs.Clocks.{clock_lines}
 use Rattle.output_lines.specs.Lines.{refusal_text}
 use Rattle.dump_input.specs.Enough.{enough}
-use Rattle.capture.specs.Checked.{capture_of}
+use Rattle.capture.specs.Checked.{checked, capture_of}
 use Rattle.capture_output.specs.Ends.{first_line}
 use Rattle.capture_steps.specs.Steps.{start_of}
 use Rattle.capture_played.specs.Whole.{printed}
@@ -20,7 +20,7 @@ use Rattle.laws_capture_player.proofs.Standing.{start-stands, rest-start}
 use Rattle.laws_capture_player.proofs.Piece.{steps-give, gives, piece-count}
 
 too_long : (text : List ℕ) → 65536 < length text → printed text ≡ refusal_text 11 0
-unfolding printed capture_of clock_lines first_line
+unfolding printed capture_of checked clock_lines first_line
 too_long text h = rw (lt-ltb 65536 (length text) h)
 
 same-beginning : (text : List ℕ) → printed (take enough text) ≡ printed text

@@ -10,7 +10,7 @@ use lib.ListN.{length}
 use Rattle.chip.proofs.InRange.{passes}
 use Rattle.clocking_word.specs.Word.{end_of}
 use Rattle.clocking_block.specs.Block.{after_words, words_of}
-use Rattle.block_limits.specs.Limits.{block_number}
+use Rattle.block_limits.specs.Limits.{accept_block, block_number}
 use Rattle.calls_words.specs.Blocks.{block_played, blocked}
 use Rattle.laws_in_range.proofs.CallsInRange.{words-kept}
 use Rattle.dump_words.specs.Words.{lines_of}
@@ -20,6 +20,7 @@ use Rattle.capture_passing.proofs.Free.{free-few, free-none, some-free}
 use Rattle.capture_course.specs.Course.{course}
 use Rattle.capture_course.specs.Claims.{NoneBy, followed_by}
 use Rattle.capture_course.proofs.Courses.{blocks}
+use Rattle.capture.specs.Checked.{told_capture}
 use Rattle.capture_output.specs.Ends.{last_line}
 use Rattle.capture_steps.specs.declared.Player.{Player}
 use Rattle.capture_steps.specs.Steps.{renders, words_for, word_lines, words_step}
@@ -47,7 +48,7 @@ module _ (text : List ℕ) (room : ℕ) (q : Player) (h : 32 ≤ room) (s : Stan
 
   -- no more words than are left, so they end as early
   block-is : blocked (words_for text room q) q.chip ≡ block_played (words_for text room q) q.chip
-  unfolding blocked block_number
+  unfolding blocked block_number accept_block
   block-is =
       let few : n * k ≤ q.words * k = mul-le-mul {n₁ = n} {m₁ = k} {n₂ = q.words} {m₂ = k} n-few (omega arith) in
       let early : q.chip.core.start + n * k < 2 ^ 64 = omega (arith, few, s.early) in
@@ -91,7 +92,7 @@ module _ (text : List ℕ) (room : ℕ) (q : Player) (h : 32 ≤ room) (s : Stan
 
   pub words_step_lem : q.begun ≡ true → q.ended ≡ false → Step text room q (word_lines text room q) (words_step text room q).player
   words_step_lem b going =
-      let writes = q.verdict.writes in
+      let writes = (told_capture q.verdict).writes in
       let line = last_line (course_yet text given).no writes (length (course_yet text given).rest) in
       let words = words_of n q.chip in
       let later = (course_yet text given).words in

@@ -1,27 +1,22 @@
 -- A word is one call, accepted as long as it ends in time. Assumes nothing.
 use mathlib.Core.List.{[], ◌∷◌}
-use mathlib.Core.Path.{◌≡◌, refl, sym, ap}
-use Prim.Native.Nat.{ℕ, ◌+◌, ◌*◌, ◌^◌, ◌<◌}
+use mathlib.Core.Path.{◌≡◌, ap}
+use Prim.Native.Nat.{◌^◌, ◌<◌}
 use native.Mathlib.Omega.{arith}
 use Rattle.refusals.specs.Numbers.{accepted}
-use Rattle.laws.proofs.Tests.{on-gt}
 use Rattle.chip.specs.declared.Chip.{Chip}
 use Rattle.chip.proofs.InRange.{InRange, passes}
 use Rattle.clocking_word.specs.Word.{end_of}
 use Rattle.clocking_block.specs.Block.{after_one, after_words}
-use Rattle.block_limits.specs.Limits.{block_number}
+use Rattle.block_limits.proofs.Fits.{in-time}
 use Rattle.answers.specs.declared.Blocked.{Blocked}
 use Rattle.calls_words.specs.Blocks.{block_played, blocked, sampled}
 use Rattle.laws_promises.specs.History.{compute-next-sample, answers, entry_of, entries, Ledger, renders, enters, entered}
 use Rattle.laws_histories.proofs.Accepted.{block-plays}
 
-in-time : (start cycles : ℕ) → start + cycles < 2 ^ 64 → block_number 1 start cycles ≡ accepted
-unfolding block_number
-in-time start cycles soon = sym (on-gt (2 ^ 64) (start + 1 * cycles) _ _ _ (omega arith) refl)
-
 module _ (c : Chip) (h : InRange c) (soon : end_of c.core < 2 ^ 64) where
   plays : blocked 1 c ≡ block_played 1 c
-  plays = block-plays 1 c (passes h) (in-time c.core.start c.core.clocks.cycles soon)
+  plays = block-plays 1 c (passes h) (in-time 1 c.core.start c.core.clocks.cycles (omega arith) (omega arith))
 
   pub word-fine : (answers compute-next-sample c).no ≡ accepted
   unfolding answers sampled

@@ -1,6 +1,6 @@
 -- Every row of the table comes out by computing. Assumes nothing.
 use mathlib.Core.Path.{refl}
-use Rattle.clocks.specs.Clocks.{clocks_no}
+use Rattle.clocks.specs.Clocks.{accept_clocks, clocks_no}
 use Rattle.variants.specs.Variants.{variant_in}
 use Rattle.tone.specs.Tone.{tone_set}
 use Rattle.power_on.specs.Seed.{power_on_edges}
@@ -18,7 +18,7 @@ use Rattle.voice_range.specs.Range.{bytes_in, tone_in, all_or_none, noise_in, en
 use Rattle.chip.specs.Range.{clocks_in, core_in, chip_in}
 use Rattle.clocking_word.specs.Word.{drained, word_of}
 use Rattle.clocking_block.specs.Block.{after_words, applied_of}
-use Rattle.block_limits.specs.Limits.{block_number}
+use Rattle.block_limits.specs.Limits.{accept_block, block_number}
 use Rattle.calls_cycles.specs.Cycles.{set_cpu_cycle, sync_sample_cycle, flush_pending_writes, flushed_pending_writes}
 use Rattle.calls_making.specs.Making.{made_of, fresh}
 use Rattle.calls_ports.specs.Ports.{write_port, write_port_immediate, wrote_port_immediate}
@@ -27,7 +27,7 @@ use Rattle.calls_words.specs.Blocks.{blocked, sampled}
 use Rattle.laws_effects.specs.Table.{Table, holding, queued}
 
 pub table : Table
-unfolding holding queued masked apply_register registers_from applied_in_order voice_set tone_period_set noise_period_set gates_set envelope_period_set shape_set pair_at tone_at put_tone tones_set tone_set gates_from generators_reset power_on_edges voice_reset writes_from waiting due queue_in push register_writes drain drained word_of after_words applied_of clocks_no clocks_in bytes_in tone_in all_or_none noise_in envelope_in generators_in gates_in voice_in variant_in core_in chip_in made_of fresh bytes_after changed_by changes_in restarts_in write_register wrote_register load_registers loaded_registers write_port write_port_immediate wrote_port_immediate set_cpu_cycle sync_sample_cycle flush_pending_writes flushed_pending_writes block_number blocked sampled
+unfolding holding queued masked apply_register registers_from applied_in_order voice_set tone_period_set noise_period_set gates_set envelope_period_set shape_set pair_at tone_at put_tone tones_set tone_set gates_from generators_reset power_on_edges voice_reset writes_from waiting due queue_in push register_writes drain drained word_of after_words applied_of clocks_no accept_clocks clocks_in bytes_in tone_in all_or_none noise_in envelope_in generators_in gates_in voice_in variant_in core_in chip_in made_of fresh bytes_after changed_by changes_in restarts_in write_register wrote_register load_registers loaded_registers write_port write_port_immediate wrote_port_immediate set_cpu_cycle sync_sample_cycle flush_pending_writes flushed_pending_writes block_number accept_block blocked sampled
 table =
     record {
       flush = refl;

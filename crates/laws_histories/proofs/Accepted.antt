@@ -1,21 +1,21 @@
 -- An accepted block: the tests that it has passed, and what it does as a call. Assumes nothing.
 use mathlib.Core.Bool.{Bool, true, false, cond}
 use mathlib.Core.List.{List}
-use mathlib.Core.Path.{◌≡◌, refl, sym, ap}
-use Prim.Native.Nat.{ℕ, zero, suc, ◌+◌, ◌*◌, ◌^◌, ◌≤◌, ◌<◌}
+use mathlib.Core.Path.{◌≡◌, refl, ap}
+use Prim.Native.Nat.{ℕ, zero, suc, ◌+◌, ◌*◌, ◌^◌, ◌<◌}
 use native.Mathlib.Nat.{suc-mul, add-mul}
 use native.Mathlib.Omega.{arith}
 use borrow.Author.Tests.{eq-eqb}
 use lib.Dec.{eqb}
 use lib.ListN.{length}
 use Rattle.refusals.specs.Numbers.{accepted, out_of_range}
-use Rattle.laws.proofs.Tests.{by-eq, on-ge, on-gt}
+use Rattle.laws.proofs.Tests.{by-eq}
 use Rattle.chip.specs.declared.Chip.{Chip}
 use Rattle.chip.specs.Range.{chip_in}
 use Rattle.clocking_word.specs.Word.{word_of}
 use Rattle.clocking_block.specs.Block.{after_one, after_words, words_of}
 use Rattle.block_limits.specs.Limits.{block_number}
-use Rattle.block_limits.proofs.Fits.{fits}
+use Rattle.block_limits.proofs.Fits.{fits, in-time}
 use Rattle.answers.specs.declared.Blocked.{Blocked}
 use Rattle.calls_words.specs.Blocks.{block_no, block_played, block_refused, blocked, block_buffer}
 use Rattle.calls_words.proofs.Accepted.{buffer-words}
@@ -45,10 +45,6 @@ block-passed n c e = passed n c (block_no n c) (chip_in c) e
 pub block-plays : (n : ℕ) (c : Chip) → chip_in c ≡ true → block_no n c ≡ accepted → blocked n c ≡ block_played n c
 unfolding blocked
 block-plays n c t e = rw (t, eq-eqb _ accepted e)
-
-in-time : (n start cycles : ℕ) → n ≤ 65536 → start + n * cycles < 2 ^ 64 → block_number n start cycles ≡ accepted
-unfolding block_number
-in-time n start cycles short soon = sym (on-ge 65536 n _ _ _ short (on-gt (2 ^ 64) (start + n * cycles) _ _ _ soon refl))
 
 -- the parts of a block in time are in time
 pub parts-in-time : (m n start cycles : ℕ) → block_number (m + n) start cycles ≡ accepted

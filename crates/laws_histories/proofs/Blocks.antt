@@ -1,14 +1,14 @@
 -- An accepted block is the same history in parts: words come one after the other, and a part ends no later. Assumes nothing.
 use mathlib.Core.List.{List, [], ◌∷◌, ◌++◌, map}
 use mathlib.Core.Path.{◌≡◌, sym, ap, ◌∙◌}
-use Prim.Native.Nat.{ℕ, ◌+◌}
+use Prim.Native.Nat.{ℕ}
 use lib.ListN.{length, length-append}
 use Rattle.refusals.specs.Numbers.{accepted}
 use Rattle.chip.specs.declared.Chip.{Chip}
 use Rattle.chip.proofs.InRange.{InRange, passes}
 use Rattle.clocking_block.specs.Block.{after_words, words_of}
 use Rattle.calls_words.specs.Blocks.{block_no, block_played, blocked, block_buffer}
-use Rattle.laws_promises.specs.History.{block, answers, after, Entry, entries, Ledger, renders, enters, entered, ledger}
+use Rattle.laws_promises.specs.History.{block, answers, after, Entry, entries, Ledger, renders, entered, ledger}
 use Rattle.laws_promises.proofs.Words.{rendered}
 use Rattle.laws_histories.specs.Histories.{joined, handed}
 use Rattle.laws_histories.specs.Claims.{BlocksJoin}

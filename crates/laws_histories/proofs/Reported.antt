@@ -18,7 +18,7 @@ use Rattle.calls_words.specs.Blocks.{block_played, blocked}
 use Rattle.dump_writes.specs.Writes.{frame_writes}
 use Rattle.dump_frames.specs.Frame.{frame_chip, frame_loaded, frame_played, frame_reported, together}
 use Rattle.dump_frames.proofs.Loading.{reported-is}
-use Rattle.laws_promises.specs.History.{block, answers}
+use Rattle.laws_promises.specs.History.{answers}
 use Rattle.laws_histories.specs.Histories.{frame_applies}
 use Rattle.laws_histories.specs.Claims.{FrameReports}
 use Rattle.laws_histories.proofs.Accepted.{block-passed, block-plays}

@@ -20,7 +20,7 @@ use Rattle.chip.specs.declared.Chip.{Chip}
 use Rattle.clocking_word.specs.Word.{drained, ran_of, mixed_of, word_of}
 use Rattle.clocking_block.specs.Block.{after_one, after_words}
 use Rattle.clocking_word.proofs.Stepping.{Stepped, stepped}
-use Rattle.clocks.specs.Clocks.{clocks_no}
+use Rattle.clocks.specs.Clocks.{accept_clocks, clocks_no}
 use Rattle.chip.specs.Clocks.{clocks_of}
 use Rattle.chip.specs.Range.{chip_in}
 use Rattle.clocks.proofs.Accepted.{accepts}
@@ -55,7 +55,7 @@ made_kept master rate variant e v =
     }
 
 pub fresh_kept : InRange fresh
-unfolding fresh clocks_no
+unfolding fresh clocks_no accept_clocks
 fresh_kept = made_kept default_master default_rate default_variant refl (omega arith)
 
 pub with-variant-kept : (master rate variant : ℕ) → InRange (with_variant master rate variant).chip

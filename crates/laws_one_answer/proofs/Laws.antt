@@ -49,6 +49,13 @@ module _ {M : Type 1} (𝓤 : Ura M) where
   by_buffer put {d} {r} {s} {e} {v} {w} =
       via 𝓤 _ (conj_mono 𝓤 (joined (r ≡ d) (v ≡ e)) (joined (s ≡ d) (w ≡ e))) (both (λ p q i. (same p.0 q.0 i, put (same p.1 q.1 i))))
 
+  -- an answer and the lent buffer, by the first two of three clauses
+  pub by_buffer_of_three : {R W L : Type 0} (put : W → L) {d r s : R} {e v w : W} {φ ψ : Type 0} →
+      ent 𝓤 (conj 𝓤 (sep 𝓤 (fact 𝓤 (r ≡ d)) (sep 𝓤 (fact 𝓤 (v ≡ e)) (fact 𝓤 φ))) (sep 𝓤 (fact 𝓤 (s ≡ d)) (sep 𝓤 (fact 𝓤 (w ≡ e)) (fact 𝓤 ψ))))
+      (fact 𝓤 (◌≡◌ {A = R × L} (r, put v) (s, put w)))
+  by_buffer_of_three put {d} {r} {s} {e} {v} {w} {φ} {ψ} =
+      via 𝓤 _ (conj_mono 𝓤 (all_joined (r ≡ d) (v ≡ e) φ) (all_joined (s ≡ d) (w ≡ e) ψ)) (both (λ p q i. (same p.0 q.0 i, put (same p.1.0 q.1.0 i))))
+
   -- an answer and the lent chip, a clause to each
   pub by_chip : {R C L : Type 0} {d r s : R} {e b c : C} {l : L} →
       ent 𝓤 (conj 𝓤 (sep 𝓤 (fact 𝓤 (r ≡ d)) (fact 𝓤 (b ≡ e))) (sep 𝓤 (fact 𝓤 (s ≡ d)) (fact 𝓤 (c ≡ e))))

@@ -2,11 +2,11 @@
 use Rattle.text_stamps.specs.contracts.long_decimal
 use Rattle.text_entries.specs.contracts.long_entry_at
 use Rattle.text_entries.specs.contracts.byte_entry_at
-use Rattle.capture_lines.specs.contracts.writes_line_no
-use Rattle.capture_lines.specs.contracts.words_line_no
-use Rattle.capture_lines.specs.contracts.stamp_line_no
-use Rattle.capture_lines.specs.contracts.port_line_no
-use Rattle.capture_lines.specs.contracts.value_line_no
+use Rattle.capture_lines.specs.contracts.writes_line
+use Rattle.capture_lines.specs.contracts.words_line
+use Rattle.capture_lines.specs.contracts.stamp_line
+use Rattle.capture_lines.specs.contracts.port_line
+use Rattle.capture_lines.specs.contracts.value_line
 use Rattle.capture_writes.specs.contracts.write_at
 use Rattle.capture_body.specs.contracts.writes_read
 use Rattle.capture.specs.contracts.check
@@ -29,11 +29,11 @@ pub record Captures : Type 2 where
   pub long_decimal : Settles long_decimal.ended (λ M 𝓤. long_decimal.clauses)
   pub long_entry_at : Settles long_entry_at.ended (λ M 𝓤. long_entry_at.clauses)
   pub byte_entry_at : Settles byte_entry_at.ended (λ M 𝓤. byte_entry_at.clauses)
-  pub writes_line_no : Settles writes_line_no.ended (λ M 𝓤. writes_line_no.clauses)
-  pub words_line_no : Settles words_line_no.ended (λ M 𝓤. words_line_no.clauses)
-  pub stamp_line_no : Settles stamp_line_no.ended (λ M 𝓤. stamp_line_no.clauses)
-  pub port_line_no : Settles port_line_no.ended (λ M 𝓤. port_line_no.clauses)
-  pub value_line_no : Settles value_line_no.ended (λ M 𝓤. value_line_no.clauses)
+  pub writes_line : Settles writes_line.ended (λ M 𝓤. writes_line.clauses)
+  pub words_line : Settles words_line.ended (λ M 𝓤. words_line.clauses)
+  pub stamp_line : Settles stamp_line.ended (λ M 𝓤. stamp_line.clauses)
+  pub port_line : Settles port_line.ended (λ M 𝓤. port_line.clauses)
+  pub value_line : Settles value_line.ended (λ M 𝓤. value_line.clauses)
   pub write_at : Settles write_at.ended (λ M 𝓤. write_at.clauses)
   pub writes_read : Settles writes_read.ended (λ M 𝓤. writes_read.clauses)
   pub check : Settles check.ended (λ M 𝓤. check.clauses)

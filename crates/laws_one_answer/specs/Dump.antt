@@ -1,5 +1,6 @@
 -- The calls of the dump player are settled, what they leave in lent buffers included (`Settled`). Assumes nothing.
 use Rattle.text_fields.specs.contracts.decimal
+use Rattle.text_fields.specs.contracts.decimal_up_to
 use Rattle.text_fields.specs.contracts.leading_zero
 use Rattle.text_fields.specs.contracts.all_hex
 use Rattle.text_fields.specs.contracts.hex_byte
@@ -8,15 +9,16 @@ use Rattle.text_lines.specs.contracts.value_at
 use Rattle.dump_reader.specs.contracts.reader
 use Rattle.dump_reader.specs.contracts.next_line
 use Rattle.dump_reader.specs.contracts.first_lines
+use Rattle.dump_clocks.specs.contracts.at_line
 use Rattle.dump_clocks.specs.contracts.clock_lines
 use Rattle.dump_body.specs.contracts.frames_read
 use Rattle.dump.specs.contracts.check
 use Rattle.dump_lines.specs.contracts.is_frame
 use Rattle.text_entries.specs.contracts.line_entry_at
-use Rattle.dump_lines.specs.contracts.master_line_no
-use Rattle.dump_lines.specs.contracts.rate_line_no
-use Rattle.dump_lines.specs.contracts.words_line_no
-use Rattle.dump_lines.specs.contracts.frames_line_no
+use Rattle.dump_lines.specs.contracts.master_line
+use Rattle.dump_lines.specs.contracts.rate_line
+use Rattle.dump_lines.specs.contracts.words_line
+use Rattle.dump_lines.specs.contracts.frames_line
 use Rattle.dump_lines.specs.contracts.frame_at
 use Rattle.dump_writes.specs.contracts.restarts
 use Rattle.dump_writes.specs.contracts.write_frame
@@ -41,6 +43,7 @@ use Rattle.laws_one_answer.specs.Settled.{Settles, SettlesAs}
 
 pub record Played : Type 2 where
   pub decimal : Settles decimal.ended (λ M 𝓤. decimal.clauses)
+  pub decimal_up_to : Settles decimal_up_to.ended (λ M 𝓤. decimal_up_to.clauses)
   pub leading_zero : Settles leading_zero.ended (λ M 𝓤. leading_zero.clauses)
   pub all_hex : Settles all_hex.ended (λ M 𝓤. all_hex.clauses)
   pub hex_byte : Settles hex_byte.ended (λ M 𝓤. hex_byte.clauses)
@@ -50,15 +53,17 @@ pub record Played : Type 2 where
   pub reader : Settles reader.ended (λ M 𝓤. reader.clauses)
   pub next_line : Settles next_line.ended (λ M 𝓤. next_line.clauses)
   pub first_lines : Settles first_lines.ended (λ M 𝓤. first_lines.clauses)
+  -- what is read of a line may itself be lent: the answer is settled
+  pub at_line : (g : _) → SettlesAs (at_line.ended g) (λ M 𝓤. at_line.clauses g) (λ h x. x.0)
   pub clock_lines : Settles clock_lines.ended (λ M 𝓤. clock_lines.clauses)
   pub frames_read : Settles frames_read.ended (λ M 𝓤. frames_read.clauses)
   pub check : Settles check.ended (λ M 𝓤. check.clauses)
   pub is_frame : Settles is_frame.ended (λ M 𝓤. is_frame.clauses)
   pub line_entry_at : Settles line_entry_at.ended (λ M 𝓤. line_entry_at.clauses)
-  pub master_line_no : Settles master_line_no.ended (λ M 𝓤. master_line_no.clauses)
-  pub rate_line_no : Settles rate_line_no.ended (λ M 𝓤. rate_line_no.clauses)
-  pub words_line_no : Settles words_line_no.ended (λ M 𝓤. words_line_no.clauses)
-  pub frames_line_no : Settles frames_line_no.ended (λ M 𝓤. frames_line_no.clauses)
+  pub master_line : Settles master_line.ended (λ M 𝓤. master_line.clauses)
+  pub rate_line : Settles rate_line.ended (λ M 𝓤. rate_line.clauses)
+  pub words_line : Settles words_line.ended (λ M 𝓤. words_line.clauses)
+  pub frames_line : Settles frames_line.ended (λ M 𝓤. frames_line.clauses)
   pub frame_at : Settles frame_at.ended (λ M 𝓤. frame_at.clauses)
   pub restarts : Settles restarts.ended (λ M 𝓤. restarts.clauses)
   pub write_frame : Settles write_frame.ended (λ M 𝓤. write_frame.clauses)

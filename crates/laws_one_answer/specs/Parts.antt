@@ -95,20 +95,22 @@ use Rattle.clocking_word.specs.contracts.volumes_of
 use Rattle.clocking_word.specs.contracts.halves_of
 use Rattle.clocking_run.specs.contracts.run_words
 use Rattle.clocking_block.specs.contracts.render
-use Rattle.clocks.specs.contracts.clocks_no
-use Rattle.clocks.specs.contracts.master_no
-use Rattle.clocks.specs.contracts.rate_no
+use Rattle.refusals.specs.contracts.Refusal.number as refusal_number
+use Rattle.refusals.specs.contracts.answer_no
+use Rattle.clocks.specs.contracts.accept_clocks
+use Rattle.clocks.specs.contracts.accept_master
+use Rattle.clocks.specs.contracts.accept_rate
 use Rattle.chip.specs.contracts.clocks_of
 use Rattle.voice_range.specs.contracts.voice_in
 use Rattle.variants.specs.contracts.variant_in
-use Rattle.variants.specs.contracts.making_no
+use Rattle.variants.specs.contracts.accept_making
 use Rattle.chip.specs.contracts.in_range
 use Rattle.answers.specs.contracts.accepted
 use Rattle.answers.specs.contracts.refused
 use Rattle.chip_parts.specs.contracts.at_start
 use Rattle.chip_parts.specs.contracts.with_voice
 use Rattle.chip_parts.specs.contracts.with_channels
-use Rattle.block_limits.specs.contracts.block_no
+use Rattle.block_limits.specs.contracts.accept_block
 use Rattle.calls_words.specs.contracts.refused as block_refused
 use Rattle.laws_one_answer.specs.Settled.{Settles}
 
@@ -209,18 +211,20 @@ pub record Parts : Type 2 where
   pub halves_of : Settles halves_of.ended (λ M 𝓤. halves_of.clauses)
   pub run_words : Settles run_words.ended (λ M 𝓤. run_words.clauses)
   pub render : Settles render.ended (λ M 𝓤. render.clauses)
-  pub clocks_no : Settles clocks_no.ended (λ M 𝓤. clocks_no.clauses)
-  pub master_no : Settles master_no.ended (λ M 𝓤. master_no.clauses)
-  pub rate_no : Settles rate_no.ended (λ M 𝓤. rate_no.clauses)
+  pub refusal_number : Settles refusal_number.ended (λ M 𝓤. refusal_number.clauses)
+  pub answer_no : Settles answer_no.ended (λ M 𝓤. answer_no.clauses)
+  pub accept_clocks : Settles accept_clocks.ended (λ M 𝓤. accept_clocks.clauses)
+  pub accept_master : Settles accept_master.ended (λ M 𝓤. accept_master.clauses)
+  pub accept_rate : Settles accept_rate.ended (λ M 𝓤. accept_rate.clauses)
   pub clocks_of : Settles clocks_of.ended (λ M 𝓤. clocks_of.clauses)
   pub voice_in : Settles voice_in.ended (λ M 𝓤. voice_in.clauses)
   pub variant_in : Settles variant_in.ended (λ M 𝓤. variant_in.clauses)
-  pub making_no : Settles making_no.ended (λ M 𝓤. making_no.clauses)
+  pub accept_making : Settles accept_making.ended (λ M 𝓤. accept_making.clauses)
   pub in_range : Settles in_range.ended (λ M 𝓤. in_range.clauses)
   pub accepted : Settles accepted.ended (λ M 𝓤. accepted.clauses)
   pub refused : Settles refused.ended (λ M 𝓤. refused.clauses)
   pub at_start : Settles at_start.ended (λ M 𝓤. at_start.clauses)
   pub with_voice : Settles with_voice.ended (λ M 𝓤. with_voice.clauses)
   pub with_channels : Settles with_channels.ended (λ M 𝓤. with_channels.clauses)
-  pub block_no : Settles block_no.ended (λ M 𝓤. block_no.clauses)
+  pub accept_block : Settles accept_block.ended (λ M 𝓤. accept_block.clauses)
   pub block_refused : Settles block_refused.ended (λ M 𝓤. block_refused.clauses)

@@ -1,13 +1,13 @@
 -- Every call of `c_record`, `c_told`, `c_making`, `c_words`, `c_blocks` and `c_calls` is settled, a block's buffer too (`Settled`). Assumes nothing.
-use Rattle.c_record.specs.contracts.chip_of
-use Rattle.c_record.specs.contracts.record_of
+use Rattle.c_record.specs.contracts.ChipFromRecord.from as chip_of
+use Rattle.c_record.specs.contracts.RecordFromChip.from as record_of
 use Rattle.c_told.specs.contracts.tell
-use Rattle.c_record.specs.contracts.drum_of
-use Rattle.c_record.specs.contracts.record_drum
-use Rattle.c_record.specs.contracts.channel_of
-use Rattle.c_record.specs.contracts.core_of
-use Rattle.c_record.specs.contracts.record_core
-use Rattle.c_record.specs.contracts.record_channel
+use Rattle.c_record.specs.contracts.DrumFromRecordDrum.from as drum_of
+use Rattle.c_record.specs.contracts.RecordDrumFromDrum.from as record_drum
+use Rattle.c_record.specs.contracts.ChannelFromRecordChannel.from as channel_of
+use Rattle.c_record.specs.contracts.CoreFromRecordCore.from as core_of
+use Rattle.c_record.specs.contracts.RecordCoreFromCore.from as record_core
+use Rattle.c_record.specs.contracts.RecordChannelFromChannel.from as record_channel
 use Rattle.c_making.specs.contracts.new
 use Rattle.c_making.specs.contracts.with_clocks
 use Rattle.c_making.specs.contracts.with_variant

@@ -1,4 +1,5 @@
 -- Every call of `steps_*`, `c_steps`, `c_queue`, `queue_slot`, `lent_chip` and `lent_record` is settled, and the two tests by parts (`Settled`). Assumes nothing.
+use denote.RattleType.{RattleType}
 use Rattle.queue.specs.contracts.ring_in
 use Rattle.chip.specs.contracts.parts_in
 use Rattle.lent_chip.specs.contracts.in_range as chip_in_range
@@ -8,8 +9,7 @@ use Rattle.steps_cycles.specs.contracts.sync_sample_cycle
 use Rattle.steps_cycles.specs.contracts.cpu_cycle
 use Rattle.steps_cycles.specs.contracts.pending_write_count
 use Rattle.steps_queue.specs.contracts.flush_pending_writes
-use Rattle.queue_slot.specs.contracts.put_stamp
-use Rattle.queue_slot.specs.contracts.put_byte
+use Rattle.queue_slot.specs.contracts.put
 use Rattle.steps_ports.specs.contracts.write_port
 use Rattle.steps_voice.specs.contracts.write_register
 use Rattle.steps_voice.specs.contracts.load_registers
@@ -26,6 +26,7 @@ use Rattle.steps_effects.specs.contracts.set_timer_irq_state
 use Rattle.steps_effects.specs.contracts.trigger_envelope
 use Rattle.c_steps.specs.contracts.set_cpu_cycle as c_set_cpu_cycle
 use Rattle.c_steps.specs.contracts.sync_sample_cycle as c_sync_sample_cycle
+use Rattle.c_steps.specs.contracts.recorded as c_recorded
 use Rattle.c_steps.specs.contracts.settled as c_settled
 use Rattle.c_queue.specs.contracts.flush_pending_writes as c_flush_pending_writes
 use Rattle.c_steps.specs.contracts.write_register as c_write_register
@@ -50,8 +51,8 @@ pub record Steps : Type 2 where
   pub cpu_cycle : Settles cpu_cycle.ended (λ M 𝓤. cpu_cycle.clauses)
   pub pending_write_count : Settles pending_write_count.ended (λ M 𝓤. pending_write_count.clauses)
   pub flush_pending_writes : Settles flush_pending_writes.ended (λ M 𝓤. flush_pending_writes.clauses)
-  pub put_stamp : Settles put_stamp.ended (λ M 𝓤. put_stamp.clauses)
-  pub put_byte : Settles put_byte.ended (λ M 𝓤. put_byte.clauses)
+  -- at every type that is copied, those of stamps and of bytes among them
+  pub put : (T : RattleType) (g : _) (d : _) → Settles (put.ended T g d) (λ M 𝓤. put.clauses T g d)
   pub write_port : Settles write_port.ended (λ M 𝓤. write_port.clauses)
   pub write_register : Settles write_register.ended (λ M 𝓤. write_register.clauses)
   pub load_registers : Settles load_registers.ended (λ M 𝓤. load_registers.clauses)
@@ -68,6 +69,8 @@ pub record Steps : Type 2 where
   pub trigger_envelope : Settles trigger_envelope.ended (λ M 𝓤. trigger_envelope.clauses)
   pub c_set_cpu_cycle : Settles c_set_cpu_cycle.ended (λ M 𝓤. c_set_cpu_cycle.clauses)
   pub c_sync_sample_cycle : Settles c_sync_sample_cycle.ended (λ M 𝓤. c_sync_sample_cycle.clauses)
+  -- beside every type of step
+  pub c_recorded : (S : RattleType) → Settles (c_recorded.ended S) (λ M 𝓤. c_recorded.clauses S)
   pub c_settled : Settles c_settled.ended (λ M 𝓤. c_settled.clauses)
   pub c_flush_pending_writes : Settles c_flush_pending_writes.ended (λ M 𝓤. c_flush_pending_writes.clauses)
   pub c_write_register : Settles c_write_register.ended (λ M 𝓤. c_write_register.clauses)

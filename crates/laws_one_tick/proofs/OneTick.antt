@@ -5,14 +5,14 @@ use mathlib.Core.Path.{◌≡◌, refl, ap, ◌∙◌, subst}
 use Prim.Native.Nat.{ℕ}
 use Rattle.refusals.specs.Numbers.{accepted, out_of_range}
 use Rattle.laws.specs.All.{All}
-use Rattle.clocks.specs.Clocks.{clocks_no}
+use Rattle.clocks.specs.Clocks.{accept_clocks, clocks_no}
 use Rattle.chip.specs.declared.Chip.{Chip}
 use Rattle.chip.specs.declared.Clocks.{Clocks}
 use Rattle.chip.proofs.InRange.{InRange, passes}
 use Rattle.chip_parts.specs.Parts.{with_times}
 use Rattle.answers.specs.Answers.{answered}
 use Rattle.calls_making.specs.Making.{made_of, default_master, default_rate, default_variant, fresh, with_variant}
-use Rattle.variants.specs.Variants.{variant_in, making_no}
+use Rattle.variants.specs.Variants.{accept_making, variant_in, making_no}
 use Rattle.calls_cycles.specs.Cycles.{sync_sample_cycle}
 use Rattle.laws_in_range.proofs.CallsInRange.{fresh_kept, with-variant-kept, sync-sample-cycle-kept}
 use Rattle.laws_promises.specs.History.{Call, answers, after, empty_ledger, ledger}
@@ -33,7 +33,7 @@ at-its-clock master variant e calls =
 
 -- the default rate is the internal clock of the default master
 default : AlwaysTickAWord (with_variant default_master default_rate default_variant).chip
-unfolding making_no clocks_no variant_in
+unfolding making_no accept_making clocks_no accept_clocks variant_in
 default = at-its-clock default_master default_variant refl
 
 -- a chip synced at 0

@@ -6,11 +6,10 @@ use Prim.Native.Nat.{ℕ, ◌+◌, ◌-◌, ◌*◌, ◌^◌, ◌≤◌, ◌<◌
 use native.Mathlib.Nat.{mul-le-mul}
 use native.Mathlib.Omega.{arith}
 use borrow.Author.Tests.{le-ltb, lt-leb}
-use lib.Dec.{ltb}
 use Rattle.dump.specs.Checked.{verdict_of}
 use Rattle.chip.proofs.InRange.{passes}
 use Rattle.clocking_block.specs.Block.{after_words, words_of}
-use Rattle.block_limits.specs.Limits.{block_number}
+use Rattle.block_limits.specs.Limits.{accept_block, block_number}
 use Rattle.calls_words.specs.Blocks.{block_played, blocked}
 use Rattle.dump_words.specs.Words.{lines_of}
 use Rattle.dump_progress.specs.Progress.{words_for}
@@ -35,7 +34,7 @@ module _ (text : List ℕ) (room : ℕ) (q : Player) (s : Stands text q) where
 
   -- no more words than are left, so they end as early
   block-is : blocked (words_for room q.progress) q.chip ≡ block_played (words_for room q.progress) q.chip
-  unfolding blocked block_number
+  unfolding blocked block_number accept_block
   block-is =
       let k = q.chip.core.clocks.cycles in
       let few : n * k ≤ q.progress.left * k = mul-le-mul {n₁ = n} {m₁ = k} {n₂ = q.progress.left} {m₂ = k} (omega arith) (omega arith) in

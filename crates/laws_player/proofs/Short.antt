@@ -11,7 +11,7 @@ use Rattle.dump_output.proofs.Saying.{first-few}
 use Rattle.dump_words.specs.Words.{lines_of}
 use Rattle.dump_played.specs.Whole.{value_of, frame_words, words_in, printed}
 use Rattle.dump_played.proofs.Whole.{frame-kept, chip-range}
-use Rattle.laws_player.proofs.Verdicts.{told}
+use Rattle.laws_player.proofs.Verdicts.{verdict-told}
 use Rattle.dump_words.proofs.Lining.{lines_join}
 use Rattle.laws_player.proofs.Words.{lines-few}
 use Rattle.laws_player.proofs.Standing.{first_then}
@@ -35,7 +35,7 @@ module _ (text : List ℕ) where
   pub printed-short : length (printed text) < 2 ^ 32
   printed-short =
       let v = verdict_of text in
-      let t = told text in
+      let t = verdict-told text in
       let few = first-few v t.no (omega (arith, t.line)) (omega (arith, t.words)) (omega (arith, t.frames)) in
       let most : v.frames * v.words ≤ 1900 * 4096 = mul-le-mul {n₁ = v.frames} {m₁ = v.words} {n₂ = 1900} {m₂ = 4096} t.frames t.words in
       let long : length (printed text) ≡ length (first_line v) + length (lines_of (words_in text v.frames))

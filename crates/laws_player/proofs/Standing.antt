@@ -6,9 +6,8 @@ use mathlib.Core.Path.{◌≡◌, refl, sym, ap, ◌∙◌}
 use Prim.Native.Nat.{ℕ, zero, suc, ◌+◌, ◌-◌, ◌*◌, ◌^◌, ◌≤◌, ◌<◌}
 use native.Mathlib.Omega.{arith}
 use borrow.Author.Tests.{eq-eqb, ne_eqb}
-use lib.Dec.{eqb}
 use Rattle.laws.proofs.Tests.{by-same}
-use Rattle.dump.specs.Checked.{verdict_of}
+use Rattle.dump.specs.Checked.{checked, told, verdict_of}
 use Rattle.chip.proofs.InRange.{InRange}
 use Rattle.clocking_block.specs.Block.{after_words, words_of}
 use Rattle.output_lines.specs.Lines.{refusal_text}
@@ -19,7 +18,7 @@ use Rattle.dump_player.specs.Player.{start_of}
 use Rattle.laws_in_range.proofs.CallsInRange.{with-clocks-kept}
 use Rattle.dump_played.specs.Whole.{frame_place, chip_before, frame_words, words_in, printed}
 use Rattle.dump_played.proofs.Whole.{made-start}
-use Rattle.laws_player.proofs.Verdicts.{told}
+use Rattle.laws_player.proofs.Verdicts.{verdict-told}
 
 -- the words of k frames from frame f on
 unfoldable pub words_from : List ℕ → ℕ → ℕ → List ℕ
@@ -32,11 +31,11 @@ words_yet text p =
     words_of p.progress.left p.chip ++ words_from text ((verdict_of text).frames - p.progress.frames) p.progress.frames
 
 unfoldable pub rest_of : List ℕ → Player → List ℕ
-rest_of text p = cond p.progress.begun [] (first_line p.verdict) ++ lines_of (words_yet text p)
+rest_of text p = cond p.progress.begun [] (first_line (told p.verdict)) ++ lines_of (words_yet text p)
 
 -- what holds of a player from its start on
 pub record Stands (text : List ℕ) (p : Player) : Type 0 where
-  pub verdict : p.verdict ≡ verdict_of text
+  pub verdict : p.verdict ≡ checked text
   pub at : p.at ≡ frame_place text p.progress.frames
   pub frames : p.progress.frames ≤ (verdict_of text).frames
   pub left : p.progress.left ≤ 4096
@@ -83,7 +82,7 @@ module _ (text : List ℕ) where
   first_then =
       let v = verdict_of text in
       by-same v.no 0 (λ e. rw (eq-eqb v.no 0 e))
-      (λ e. rw (ne_eqb v.no 0 e, (told text).none e) (append-nil (refusal_text v.no v.line)))
+      (λ e. rw (ne_eqb v.no 0 e, (verdict-told text).none e) (append-nil (refusal_text v.no v.line)))
 
   pub rest-start : rest_of text (start_of text) ≡ printed text
   unfolding rest_of start_of

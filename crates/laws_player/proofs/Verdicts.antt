@@ -5,17 +5,17 @@ use Prim.Native.Nat.{ℕ, zero, suc, ◌+◌, ◌≤◌, ◌<◌}
 use native.Mathlib.Omega.{arith}
 use lib.Dec.{ltb}
 use lib.ListN.{length}
-use Rattle.laws.proofs.Tests.{by_cond, by-lt}
-use Rattle.text_lines.specs.Bytes.{bytes}
+use Rattle.std.specs.Prelude.{Result, Ok, Err}
+use Rattle.laws.proofs.Tests.{by_cond}
 use Rattle.text_lines.specs.Lines.{line_at}
-use Rattle.text_entries.specs.Entries.{line_entry_at}
-use Rattle.dump_lines.specs.OneLine.{words_line_no, frames_line_no, frame_at}
-use Rattle.dump_lines.proofs.Ranges.{words-range, frames-range, words_small, frames_small}
-use Rattle.dump_clocks.specs.Clocks.{clock_lines}
+use Rattle.dump_lines.specs.OneLine.{frame_at}
+use Rattle.dump_lines.proofs.Ranges.{frames-range}
 use Rattle.dump_clocks.specs.declared.ClockLines.{ClockLines}
-use Rattle.dump_clocks.proofs.Paced.{numbered}
-use Rattle.dump.specs.declared.Verdict.{Verdict}
-use Rattle.dump.specs.Checked.{refused_at, accepted_with, frames_from, sized, verdict_of}
+use Rattle.dump_clocks.specs.declared.LineRefused.{LineRefused}
+use Rattle.dump_clocks.proofs.Paced.{numbered, refused-early}
+use Rattle.dump.specs.declared.Dump.{Dump}
+use Rattle.dump.specs.Checked.{frames_from, sized, checked, Verdict, told, verdict_of}
+use Rattle.dump.proofs.Accepted.{Laid, checked-laid}
 
 pub record Told (v : Verdict) : Type 0 where
   pub no : v.no < 256
@@ -26,36 +26,43 @@ pub record Told (v : Verdict) : Type 0 where
   pub none : (v.no ≡ 0 → ⊥) → v.frames ≡ 0
   pub some : v.no ≡ 0 → 0 < v.words
 
-told-refusal : (number line : ℕ) → 0 < number → number < 256 → line ≤ 1905 → Told (refused_at number line)
-told-refusal number line h n l =
-    record { no = n; line = l; words = omega arith; frames = omega arith; none = λ _. refl; some = λ e. absurd (omega arith) }
+told-refusal : (e : LineRefused) → e.line ≤ 1905 → Told (told (Err e))
+unfolding told
+told-refusal e l =
+    record {
+      no = (numbered e.why).1;
+      line = l;
+      words = omega arith;
+      frames = omega arith;
+      none = λ _. refl;
+      some = λ z. absurd (omega (arith, (numbered e.why).0));
+    }
 
-told-frames : (t : List ℕ) (good : Verdict) → Told good → (k line at : ℕ) → 0 < line → line + k ≤ 1905 → Told (frames_from t good k line at)
-unfolding frames_from
-told-frames t good g zero line at some h =
-    by_cond Told (ltb at (length t)) _ _ (λ _. told-refusal 10 line (omega arith) (omega arith) (omega arith)) (λ _. g)
-told-frames t good g (suc k) line at some h =
-    by_cond Told (frame_at t at) _ _ (λ _. told-frames t good g k (line + 1) (line_at t at).next (omega arith) (omega arith))
-    (λ _. told-refusal 8 line (omega arith) (omega arith) (omega arith))
+told-dump : (t : List ℕ) (d : Dump) → Laid t (told (Ok d)) → Told (told (Ok d))
+unfolding told
+told-dump t d l =
+    record { no = omega arith; line = omega arith; words = l.words; frames = l.frames; none = λ z. absurd (z refl); some = λ _. l.any }
 
-told-sized : (t : List ℕ) (k : ClockLines) → Told (sized t k)
-unfolding sized
-told-sized t k =
-    let three = line_entry_at (bytes "words=") t k.third in
-    let four = line_entry_at (bytes "frames=") t k.fourth in
-    by-lt Told 0 (words_line_no three) (λ h. told-refusal (words_line_no three) 3 h (words_small three) (omega arith))
-    (λ h. by-lt Told 0 (frames_line_no four) (λ g. told-refusal (frames_line_no four) 4 g (frames_small four) (omega arith))
-    (λ g.
-    let w = words-range three h in
-    let f = (frames-range four g).1 in
-    told-frames t (accepted_with k.master k.rate three.value four.value four.next)
-    (record { no = omega arith; line = omega arith; words = w.1; frames = f; none = λ z. absurd (z refl); some = λ _. w.0 })
-    four.value 5 four.next (omega arith) (omega (arith, f))))
+module _ (t : List ℕ) where
+  frames-early : (k line at : ℕ) → line + k ≤ 1905 → (e : LineRefused) → frames_from t k line at ≡ Err e → e.line ≤ 1905
+  unfolding frames_from
+  frames-early zero line at h e =
+      by_cond (λ (v : Result (Unit {0}) LineRefused). v ≡ Err e → e.line ≤ 1905) (ltb at (length t)) _ _ (λ _ q. grind arith) (λ _ q. cc)
+  frames-early (suc k) line at h e =
+      by_cond (λ (v : Result (Unit {0}) LineRefused). v ≡ Err e → e.line ≤ 1905) (frame_at t at) _ _
+      (λ _. frames-early k (line + 1) (line_at t at).next (omega arith) e) (λ _ q. grind arith)
 
-pub told : (t : List ℕ) → Told (verdict_of t)
-unfolding verdict_of
-told t =
-    let k = clock_lines t in
-    let n = numbered t in
-    by-lt Told 0 k.no (λ h. told-refusal k.no k.line h n.no (omega (arith, n.line)))
-    (λ _. told-sized t k)
+  sized-early : (k : ClockLines) (e : LineRefused) → sized t k ≡ Err e → e.line ≤ 1905
+  unfolding sized
+  sized-early k e q = grind (arith, frames-early, frames-range)
+
+  checked-early : (e : LineRefused) → checked t ≡ Err e → e.line ≤ 1905
+  unfolding checked
+  checked-early e q = grind (arith, refused-early, sized-early)
+
+  told-result : (r : Result Dump LineRefused) → checked t ≡ r → Told (told r)
+  told-result (Ok d) q = told-dump t d (checked-laid t d q)
+  told-result (Err e) q = told-refusal e (checked-early e q)
+
+  pub verdict-told : Told (verdict_of t)
+  verdict-told = told-result (checked t) refl

@@ -25,7 +25,7 @@ use Rattle.queue_drain.specs.Drain.{drain}
 use Rattle.clocking_ticks.specs.Ticks.{ticking, ticked}
 use Rattle.clocking_word.specs.Word.{drained, ran_of, mixed_of, word_of}
 use Rattle.clocking_block.specs.Block.{after_words, ticks_of}
-use Rattle.clocks.specs.Clocks.{clocks_no}
+use Rattle.clocks.specs.Clocks.{accept_clocks, clocks_no}
 use Rattle.voice_range.specs.Range.{bytes_in, tone_in, all_or_none, noise_in, envelope_in, generators_in, gates_in, voice_in}
 use Rattle.chip.specs.declared.Chip.{Chip}
 use Rattle.chip.specs.Range.{clocks_in, core_in, chip_in}
@@ -34,7 +34,7 @@ use Rattle.calls_making.specs.Making.{made_of, with_clocks, reset_of, reset_call
 use Rattle.calls_ports.specs.Ports.{write_port}
 use Rattle.calls_cycles.specs.Cycles.{set_cpu_cycle, sync_sample_cycle, flush_pending_writes}
 use Rattle.calls_words.specs.Blocks.{blocked, sampled}
-use Rattle.block_limits.specs.Limits.{block_number}
+use Rattle.block_limits.specs.Limits.{accept_block, block_number}
 use Rattle.laws_promises.specs.History.{Call, write-port, set-cpu-cycle, sync-sample-cycle, flush-pending-writes, reset, compute-next-sample, block, answers, after, Entry, entries, empty_ledger, enters, entered, ledger}
 use Rattle.laws_promises.specs.Demand.{position_of, reach, Holds}
 use Rattle.laws_promises.proofs.Demand.{clocks-demand}
@@ -62,7 +62,7 @@ late-then-early = set-cpu-cycle 500 ∷ write-port 2 1 ∷ set-cpu-cycle 100 ∷
 
 -- the demand at this history
 pub held : Holds 2000000 44100 0 (after late-then-early at44100) (ledger late-then-early at44100 empty_ledger)
-unfolding clocks_no
+unfolding clocks_no accept_clocks
 held = clocks-demand 2000000 44100 refl late-then-early
 
 pub cases : (map (λ (w : Entry). w.ticks) (words four-words) ≡ 6 ∷ 6 ∷ 6 ∷ 5 ∷ []) × ((after four-words at44100).core.accumulator ≡ 14300)
@@ -74,5 +74,5 @@ pub cases : (map (λ (w : Entry). w.ticks) (words four-words) ≡ 6 ∷ 6 ∷ 6 
     × ((ledger (late-then-early ++ reset ∷ compute-next-sample ∷ []) at44100 empty_ledger).accepted ≡ [])
     × ((ledger (write-port 0 13 ∷ write-port 2 8 ∷ three-words) at44100 empty_ledger).restarted ≡ true)
     × (position_of (after (write-port 0 13 ∷ write-port 2 8 ∷ four-words) at44100) ≡ negsuc 40)
-unfolding shape_entry envelope_entry tone_set tone_step tone_tick register_step output_by noise_tick next_position envelope_tick row_place envelope_level tick edges_of tone_at put_tone tones_set seeded power_on_edges generators_reset gates_from gate_of heard sounded fixed_level envelope_used level_used gated_level loudness_of mixed pair_at tone_period_set noise_period_set gates_set envelope_period_set shape_set voice_set masked apply_register voice_reset writes_from waiting due late applied_in_order register_writes push drain queue_in ticking ticked drained ran_of mixed_of word_of after_words ticks_of clocks_no clocks_in bytes_in tone_in all_or_none noise_in envelope_in generators_in gates_in voice_in variant_in core_in chip_in made_of with_clocks reset_of reset_call write_port set_cpu_cycle sync_sample_cycle flush_pending_writes block_number blocked sampled answers after entries enters entered ledger reach
+unfolding shape_entry envelope_entry tone_set tone_step tone_tick register_step output_by noise_tick next_position envelope_tick row_place envelope_level tick edges_of tone_at put_tone tones_set seeded power_on_edges generators_reset gates_from gate_of heard sounded fixed_level envelope_used level_used gated_level loudness_of mixed pair_at tone_period_set noise_period_set gates_set envelope_period_set shape_set voice_set masked apply_register voice_reset writes_from waiting due late applied_in_order register_writes push drain queue_in ticking ticked drained ran_of mixed_of word_of after_words ticks_of clocks_no accept_clocks clocks_in bytes_in tone_in all_or_none noise_in envelope_in generators_in gates_in voice_in variant_in core_in chip_in made_of with_clocks reset_of reset_call write_port set_cpu_cycle sync_sample_cycle flush_pending_writes block_number accept_block blocked sampled answers after entries enters entered ledger reach
 cases = (refl, refl, refl, refl, refl, refl, refl, refl, refl)

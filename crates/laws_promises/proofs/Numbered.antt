@@ -1,7 +1,7 @@
 -- A record in range never gives 22, and a call that answers another number than 0 leaves its chip. Assumes nothing.
 use mathlib.Core.Bool.{true, false, cond}
 use mathlib.Core.Path.{◌≡◌, refl, sym, ◌∙◌}
-use Prim.Native.Nat.{ℕ, ◌+◌, ◌*◌, ◌^◌}
+use Prim.Native.Nat.{ℕ}
 use native.Mathlib.Omega.{arith}
 use lib.ListN.{length}
 use Rattle.refusals.specs.Numbers.{accepted, out_of_range}
@@ -27,7 +27,7 @@ use Rattle.calls_cycles.specs.Cycles.{cpu_cycle, flush_pending_writes, pending_w
 use Rattle.calls_effects.specs.Effects.{set_timer_irq_state, trigger_envelope}
 use Rattle.calls_channels.specs.ChannelCalls.{for_channel, get_channel_outputs, is_channel_muted, set_channel_mute, set_drum_sample_override}
 use Rattle.calls_words.specs.Blocks.{block_no, blocked, sampled}
-use Rattle.block_limits.specs.Limits.{block_number}
+use Rattle.block_limits.specs.Limits.{accept_block, block_number}
 use Rattle.laws_promises.specs.History
 use Rattle.laws_promises.specs.History.{Call, answers}
 
@@ -39,10 +39,8 @@ zero-fine : accepted ≡ out_of_range → ⊥
 zero-fine e = omega arith
 
 block-fine : (n start cycles : ℕ) → block_number n start cycles ≡ out_of_range → ⊥
-unfolding block_number
-block-fine n start cycles =
-    by-lt (λ (x : ℕ). x ≡ out_of_range → ⊥) 65536 n (λ _ e. omega arith)
-    (λ _. by_le (λ (x : ℕ). x ≡ out_of_range → ⊥) (2 ^ 64) (start + n * cycles) (λ _ e. omega arith) (λ _. zero-fine))
+unfolding block_number accept_block
+block-fine n start cycles e = grind arith
 
 module _ (c : Chip) where
   takes : (d : Chip) → Numbered c (answered accepted d)

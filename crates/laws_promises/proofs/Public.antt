@@ -9,13 +9,13 @@ use Rattle.refusals.specs.Numbers.{accepted}
 use Rattle.laws.proofs.Tests.{by_cond, on-ne}
 use Rattle.channel.specs.declared.Drum.{Drum}
 use Rattle.chip.specs.declared.Chip.{Chip}
-use Rattle.clocks.specs.Clocks.{clocks_no}
+use Rattle.clocks.specs.Clocks.{accept_clocks, clocks_no}
 use Rattle.answers.specs.declared.Answered.{Answered}
 use Rattle.answers.specs.declared.Written.{Written}
 use Rattle.answers.specs.Answers.{answered}
 use Rattle.answers.proofs.Laws.{of_one, of_some, one-is, some_is}
 use Rattle.calls_making.specs.Making.{fresh, with_clocks, with_variant, reset_call, default_master, default_rate, default_variant}
-use Rattle.variants.specs.Variants.{variant_in, making_no}
+use Rattle.variants.specs.Variants.{accept_making, variant_in, making_no}
 use Rattle.calls_making.proofs.Makings.{default-variant}
 use Rattle.calls_registers.specs.Stored.{dump_registers, load_registers, loaded_registers, read_register, write_register, wrote_register}
 use Rattle.calls_ports.specs.Ports.{bit1_clear, read_port, write_port, write_port_immediate, wrote_port_immediate}
@@ -82,7 +82,7 @@ public c =
 
 -- `new`, `with_clocks`, and `with_variant` where it refuses, begin histories that are among the demand's
 pub new-begins : fresh ≡ (with_variant default_master default_rate default_variant).chip
-unfolding fresh with_variant making_no clocks_no variant_in
+unfolding fresh with_variant making_no accept_making clocks_no accept_clocks variant_in
 new-begins = refl
 
 pub clocks-begin : (master rate : ℕ) → with_clocks master rate ≡ with_variant master rate default_variant

@@ -8,7 +8,8 @@ use Rattle.clocks.specs.Clocks.{clocks_no}
 use Rattle.chip.specs.Clocks.{clocks_of}
 use Rattle.answers.specs.Answers.{answered}
 use Rattle.calls_making.specs.Making.{made_of, fresh, with_variant}
-use Rattle.variants.specs.Variants.{variant_in, making_no}
+use Rattle.variants.specs.Variants.{variant_in}
+use Rattle.variants.proofs.Cases.{making-cases}
 use Rattle.calls_making.proofs.Makings.{default-variant}
 use Rattle.laws_variants.specs.Claims.{Variants}
 use Rattle.laws_variants.proofs.Levels.{lifted, silent, as-it-is, cleared, fixed, above}
@@ -16,16 +17,16 @@ use Rattle.laws_variants.proofs.Refused.{gives-22, stays}
 
 module _ (master rate variant : ℕ) where
   clocks-first : (clocks_no master rate ≡ accepted → ⊥) → with_variant master rate variant ≡ answered (clocks_no master rate) fresh
-  unfolding with_variant making_no
-  clocks-first f = let e = ne_eqb (clocks_no master rate) accepted f in rw (e, e)
+  unfolding with_variant
+  clocks-first f = let e = ne_eqb (clocks_no master rate) accepted f in rw (making-cases master rate variant, e, e)
 
   thirteen : clocks_no master rate ≡ accepted → 2 < variant → with_variant master rate variant ≡ answered no_such_variant fresh
-  unfolding with_variant making_no variant_in
-  thirteen ok h = rw (eq-eqb (clocks_no master rate) accepted ok, lt-leb variant 2 h)
+  unfolding with_variant variant_in
+  thirteen ok h = rw (making-cases master rate variant, eq-eqb (clocks_no master rate) accepted ok, lt-leb variant 2 h)
 
   makes : clocks_no master rate ≡ accepted → variant ≤ 2 → with_variant master rate variant ≡ answered accepted (made_of (clocks_of master rate) variant)
-  unfolding with_variant making_no variant_in
-  makes ok h = rw (eq-eqb (clocks_no master rate) accepted ok, le-leb variant 2 h)
+  unfolding with_variant variant_in
+  makes ok h = rw (making-cases master rate variant, eq-eqb (clocks_no master rate) accepted ok, le-leb variant 2 h)
 
 default : fresh.core.variant ≡ 0
 unfolding fresh made_of

@@ -3,7 +3,6 @@
 #![tactic(auto)]
 
 ghost use Rattle.std.specs.Prelude.{◌≡◌, ◌<◌};
-ghost use Rattle.tables.specs.Levels.{levels};
 ghost use Rattle.levels.specs.Levels.{fixed_level, envelope_used, level_used, gated_level, loudness_of};
 
 // The level index of a volume register, before the gate.
@@ -43,11 +42,10 @@ pub fn gated_level(index: u8, gate: u32) -> u8
     index & ((gate % 32) as u8)
 }
 
-// `table` is that of `tables::level_table`.
-pub fn loudness(table: &[u16; 32], index: u8, half: bool) -> u16
-    requires { (table.now ≡ levels) × (index < 32) }
+pub fn loudness(index: u8, half: bool) -> u16
+    requires { index < 32 }
     ensures { result ≡ loudness_of half index }
 {
-    let level = tables::level(table, index);
+    let level = tables::level(index);
     if half { level / 2 } else { level }
 }

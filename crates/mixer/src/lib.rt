@@ -2,7 +2,6 @@
 #![tactic(auto)]
 
 ghost use Rattle.std.specs.Prelude.{◌≡◌, ◌<◌};
-ghost use Rattle.tables.specs.Levels.{levels};
 ghost use Rattle.mixer.specs.Mix.{mixed};
 
 use three_channels::Channels;
@@ -14,6 +13,8 @@ pub struct Mixed {
 }
 
 // R8 to R10, whether each is halved, the envelope's level, and the gate of all ticks.
+// Marked, since with two callers it is not inlined of itself, and a word by itself then takes a quarter more instructions.
+#[inline(always)]
 pub fn mix(
     variant: u8,
     channels: Channels,
@@ -21,19 +22,19 @@ pub fn mix(
     halves: [bool; 3],
     envelope: u8,
     gate: u32,
-    table: &[u16; 32],
 ) -> Mixed
     requires envelope_bound { envelope < 32 }
-    requires table_value { table.now ≡ levels }
     ensures { result ≡ mixed variant channels volumes halves envelope gate }
 {
     let a = channels
         .a
-        .sound(variant, volumes[0], halves[0], envelope, gate, table);
+        .sound(variant, volumes[0], halves[0], envelope, gate);
     let b = channels
         .b
-        .sound(variant, volumes[1], halves[1], envelope, gate >> 5, table);
-    let c = channels.c.sound(variant, volumes[2], halves[2], envelope, gate >> 10, table);
+        .sound(variant, volumes[1], halves[1], envelope, gate >> 5);
+    let c = channels
+        .c
+        .sound(variant, volumes[2], halves[2], envelope, gate >> 10);
     let word = a.out + b.out + c.out;
     let a = a.channel;
     let b = b.channel;
@@ -50,21 +51,9 @@ pub fn kept(
     halves: [bool; 3],
     envelope: u8,
     last: u32,
-    table: &[u16; 32],
 ) -> Channels
     requires envelope_bound { envelope < 32 }
-    requires table_value { table.now ≡ levels }
     ensures { result ≡ (mixed variant channels volumes halves envelope last).channels }
 {
-    let a = channels
-        .a
-        .sound(variant, volumes[0], halves[0], envelope, last, table);
-    let b = channels
-        .b
-        .sound(variant, volumes[1], halves[1], envelope, last >> 5, table);
-    let c = channels.c.sound(variant, volumes[2], halves[2], envelope, last >> 10, table);
-    let a = a.channel;
-    let b = b.channel;
-    let c = c.channel;
-    Channels { a, b, c }
+    mix(variant, channels, volumes, halves, envelope, last).channels
 }

@@ -3,13 +3,16 @@ use mathlib.Core.Path.{◌≡◌, refl, ◌∙◌}
 use mathlib.Core.List.{List, ◌++◌}
 use Prim.Native.Nat.{ℕ, ◌+◌, ◌*◌, ◌^◌, ◌≤◌, ◌<◌}
 use native.Mathlib.Omega.{arith}
-use borrow.Author.Tests.{eq-eqb, ne_eqb, lt-ltb, le-ltb}
+use borrow.Author.Tests.{lt-ltb, le-ltb}
 use lib.ListN.{length, take, drop}
 use lib.Seq.{take_at}
 use Rattle.text_put.specs.Text.{overlaid, laid, place_after}
 use Rattle.text_put.proofs.Laying.{laid-over, place-over, over_none}
 use Rattle.output_lines.specs.Lines.{refusal_text}
 use Rattle.output_lines.proofs.Saying.{refusal-few}
+use Rattle.std.specs.Prelude.{Ok, Err}
+use Rattle.refusals.specs.Numbers.{number_of}
+use Rattle.dump_clocks.specs.declared.LineRefused.{LineRefused}
 use Rattle.notes_text.specs.Checked.{asked_in}
 use Rattle.notes_text.specs.declared.Asked.{Asked}
 use Rattle.notes_text.proofs.Few.{asked-few}
@@ -29,24 +32,24 @@ module _ (t out : List ℕ) where
     unfolding printed_in
     whole e p q = rw (le-ltb (length out) most h) (rw e at p, rw e at q)
 
-    module _ {asked : Asked} (a : asked ≡ asked_in t) where
-      pub refused-told : (asked.no ≡ 0 → ⊥) → asked.no < 256 → asked.line < 2 ^ 32 → {r : ℕ} {after : List ℕ}
-          → (r ≡ place_after out 0 (refusal_text asked.no asked.line)) × (after ≡ laid out 0 (refusal_text asked.no asked.line))
-          → Answered t out r after
-      unfolding printed
-      refused-told n k l {r} {after} p =
-          let text = refusal_text asked.no asked.line in
-          let few = refusal-few asked.no asked.line k l in
-          whole {text = text} (rw (← a, ne_eqb asked.no 0 n)) (p.0 ∙ place-over out 0 text (omega (arith, few)) ∙ omega arith) (p.1 ∙ laid-over out 0 text (omega (arith, few)))
+    pub refused-told : {e : LineRefused} → asked_in t ≡ Err e → number_of e.why < 256 → e.line < 2 ^ 32 → {r : ℕ} {after : List ℕ}
+        → (r ≡ place_after out 0 (refusal_text (number_of e.why) e.line)) × (after ≡ laid out 0 (refusal_text (number_of e.why) e.line))
+        → Answered t out r after
+    unfolding printed
+    refused-told {e} a k l {r} {after} p =
+        let text = refusal_text (number_of e.why) e.line in
+        let few = refusal-few (number_of e.why) e.line k l in
+        whole {text = text} (rw a) (p.0 ∙ place-over out 0 text (omega (arith, few)) ∙ omega arith) (p.1 ∙ laid-over out 0 text (omega (arith, few)))
 
+    module _ {asked : Asked} (a : asked_in t ≡ Ok asked) where
       pub notes-fit : 12 * asked.notes ≤ length out
-      notes-fit = rw a (omega (arith, asked-few t))
+      notes-fit = omega (arith, asked-few t a)
 
-      pub notes-told : asked.no ≡ 0 → {r : ℕ} {after : List ℕ}
+      pub notes-told : {r : ℕ} {after : List ℕ}
           → (r ≡ length (lines_from asked.master t asked.notes asked.body)) × (after ≡ overlaid out 0 (lines_from asked.master t asked.notes asked.body))
           → Answered t out r after
       unfolding printed
-      notes-told z p = whole {text = lines_from asked.master t asked.notes asked.body} (rw (← a, eq-eqb asked.no 0 z)) p.0 p.1
+      notes-told p = whole {text = lines_from asked.master t asked.notes asked.body} (rw a) p.0 p.1
 
 -- what a caller with that room finds: the whole output at the buffer's start
 module _ (t out : List ℕ) (long : most ≡ length out) where

@@ -5,6 +5,8 @@ ghost use Rattle.std.specs.Prelude.{◌≡◌, ◌+◌, ◌*◌, ◌≤◌, leng
 ghost use Rattle.text_put.specs.Text.{overlaid};
 ghost use Rattle.notes_output.specs.Printed.{lines_from, most, period_text, printed_in};
 
+use notes_text::Asked;
+
 // The longest output: a line `pitch=` of 8 bytes or more is answered by one of 12 at most, and a list has 65,536 bytes at most.
 pub const MOST: usize = 98_304;
 
@@ -24,27 +26,24 @@ pub fn answer(text: &[u8], out: &mut [u8]) -> usize
     if out.len() < MOST {
         return 0;
     }
-    let asked = notes_text::check(text);
-    if asked.no != refusals::ACCEPTED {
-        return output_lines::put_refusal(out, asked.no, asked.line);
+    match notes_text::check(text) {
+        Ok(asked) => put_periods(text, asked, out),
+        Err(refused) => output_lines::put_refusal(out, refused.why.number(), refused.line),
     }
-    put_periods(text, asked.master, asked.notes, asked.body, out)
 }
 
 // A line to a note, one after the other; a period has 4 digits at most.
-fn put_periods(text: &[u8], master: u32, notes: u32, body: usize, out: &mut [u8]) -> usize
-    requires { 12 * notes ≤ length out.old }
-    ensures count { result ≡ length (lines_from master text.now notes body) }
-    ensures buffer { out.new ≡ overlaid out.old 0 (lines_from master text.now notes body) }
+fn put_periods(text: &[u8], asked: Asked, out: &mut [u8]) -> usize
+    requires { 12 * asked.notes ≤ length out.old }
+    ensures count { result ≡ length (lines_from asked.master text.now asked.notes asked.body) }
+    ensures buffer { out.new ≡ overlaid out.old 0 (lines_from asked.master text.now asked.notes asked.body) }
 {
-    let mut left = notes;
-    let mut at = body;
+    let mut at = asked.body;
     let mut place = 0;
-    while left > 0 {
-        let note = notes_text::note_at(master, text, at);
-        place = put_period(out, place, note.period);
+    for _ in 0..asked.notes {
+        let note = notes_text::note_at(asked.master, text, at);
+        place = put_period(out, place, note.value.unwrap_or(0));
         at = note.next;
-        left -= 1;
     }
     place
 }

@@ -1,5 +1,4 @@
 pub mod Long
 pub mod Noting
 pub mod Walking
-pub mod Checking
 pub mod Few

@@ -1,24 +1,23 @@
 -- A line whose number was read has its key, a digit or more and its LF, all inside the text. Assumes nothing.
-use mathlib.Core.Bool.{true, false}
+use mathlib.Core.Bool.{true}
 use mathlib.Core.List.{List}
 use mathlib.Core.Path.{◌≡◌, refl}
 use Prim.Native.Nat.{ℕ, ◌+◌, ◌-◌, ◌≤◌, ◌<◌}
 use native.Mathlib.Omega.{arith}
 use lib.Dec.{ltb}
-use lib.ListN.{length, take, drop, length-take, length-drop}
+use lib.ListN.{length, drop, length-take, length-drop}
 use Rattle.laws.proofs.Tests.{by_cond, by-eq}
 use Rattle.text_fields.specs.Fields.{decimal_of}
-use Rattle.text_fields.specs.declared.Number.{Number}
+use Rattle.std.specs.Prelude.{Option, Some}
 use Rattle.text_lines.specs.Lines.{bytes_at, end_at, line_at, starts_with, value_at}
 use Rattle.text_lines.specs.declared.Line.{Line}
 use Rattle.text_lines.proofs.Values.{whole-inside}
 use Rattle.text_entries.specs.Entries.{line_entry_at}
 
-some-digits : (ds : List ℕ) → (decimal_of ds).bad ≡ false → 0 < length ds
+some-digits : (ds : List ℕ) {n : ℕ} → decimal_of ds ≡ Some n → 0 < length ds
 unfolding decimal_of
-some-digits ds =
-    by-eq (λ (n : Number). n.bad ≡ false → 0 < length ds) (length ds) 0 (λ _ e. absurd (let z : ◌≡◌ {A = ℕ} 0 1 = cc in omega arith))
-    (λ h _. some (length ds) h)
+some-digits ds {n} =
+    by-eq (λ (o : Option ℕ). o ≡ Some n → 0 < length ds) (length ds) 0 (λ _ e. absurd cc) (λ h _. some (length ds) h)
   where
     some : (n : ℕ) → (n ≡ 0 → ⊥) → 0 < n
     some n h = omega arith
@@ -50,7 +49,7 @@ module _ (key t : List ℕ) (at : ℕ) where
     pub after : at + length key + 2 ≤ (line_entry_at key t at).next
     pub inside : (line_entry_at key t at).next ≤ length t
 
-  pub read-long : (line_entry_at key t at).bad ≡ false → Long
+  pub read-long : {n : ℕ} → (line_entry_at key t at).value ≡ Some n → Long
   unfolding line_entry_at
   read-long e =
       let m = ended (some-digits (value_at key t at) e) in

@@ -19,6 +19,7 @@ pub fn put_refusal(out: &mut [u8], no: u8, line: u32) -> usize
     text_put::put_bytes(out, 0, &bytes[..n])
 }
 
+#[tactic(auto, unfolding(crate::specs::Lines::total_text))]
 pub fn put_total(out: &mut [u8], words: u32) -> usize
     ensures place { result ≡ place_after out.old 0 (total_text words) }
     ensures text { out.new ≡ laid out.old 0 (total_text words) }
@@ -26,6 +27,7 @@ pub fn put_total(out: &mut [u8], words: u32) -> usize
     put_named(out, b"words=", words as u64)
 }
 
+#[tactic(auto, unfolding(crate::specs::Lines::left_text))]
 pub fn put_left(out: &mut [u8], writes: u16) -> usize
     ensures place { result ≡ place_after out.old 0 (left_text writes) }
     ensures text { out.new ≡ laid out.old 0 (left_text writes) }

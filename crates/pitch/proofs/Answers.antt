@@ -1,7 +1,7 @@
 -- What the two calls answer: a period that is nearest, and a yes exactly where each is; a period out of range never is. Assumes nothing.
-use mathlib.Core.Bool.{true}
+use mathlib.Core.Bool.{Bool, true}
 use mathlib.Core.List.{List, [], ◌∷◌}
-use mathlib.Core.Path.{◌≡◌, refl}
+use mathlib.Core.Path.{◌≡◌, refl, ap}
 use Prim.Native.Nat.{ℕ, zero, suc}
 use native.Mathlib.Omega.{arith}
 use borrow.Author.Tests.{eq-eqb, eqb-true}
@@ -11,10 +11,10 @@ use Rattle.laws.proofs.Lists.{both-parts, both_true}
 use Rattle.laws.specs.All.{every}
 use Rattle.laws.proofs.Tests.{by_cond, by-eq}
 use Rattle.pitch.specs.Pitch.{master_in, pitch_in, nearest_to, nearest_period, each_nearest, are_nearest}
-use Rattle.pitch.specs.declared.Found.{Found}
-use Rattle.pitch.specs.declared.Checked.{Checked}
+use Rattle.std.specs.Prelude.{Result, Ok}
+use Rattle.refusals.specs.declared.Refusal.{Refusal}
 use Rattle.pitch.specs.Claims.{IsNearest, EachIs, Finds, YesExactly, Right, SaysYes}
-use Rattle.pitch.proofs.Ranges.{never, master-is, master-passes, pitch-at, pitches-pass}
+use Rattle.pitch.proofs.Ranges.{master-is, master-passes, pitch-at, pitches-pass}
 use Rattle.pitch.proofs.Walk.{nearest-is, is-nearest}
 
 module _ (master : ℕ) where
@@ -39,34 +39,36 @@ yes-exactly master pitches periods l = (yes-means master pitches periods l, mean
 
 pub finds : Finds
 unfolding nearest_period
-finds master pitch =
-    by_cond (λ (f : Found). f.no ≡ 0 → IsNearest master pitch f.period) (master_in master) _ _
-    (λ _. by_cond (λ (f : Found). f.no ≡ 0 → IsNearest master pitch f.period) (pitch_in pitch) _ _ (λ _ _. nearest-is master pitch)
-    (λ _ e. absurd (omega arith)))
-    (λ _ e. absurd (omega arith))
+finds master pitch t =
+    by_cond (λ (f : Result ℕ Refusal). f ≡ Ok t → IsNearest master pitch t) (master_in master) _ _
+    (λ _. by_cond (λ (f : Result ℕ Refusal). f ≡ Ok t → IsNearest master pitch t) (pitch_in pitch) _ _
+    (λ _ e. let z : nearest_to master pitch ≡ t = cc in rw z at (nearest-is master pitch))
+    (λ _ e. absurd cc))
+    (λ _ e. absurd cc)
 
 module _ (master : ℕ) (pitches periods : List ℕ) where
-  said : (are_nearest master pitches periods).yes ≡ true → Right master pitches periods
+  said : are_nearest master pitches periods ≡ Ok true → Right master pitches periods
   unfolding are_nearest
   said =
-      by_cond (λ (a : Checked). a.yes ≡ true → Right master pitches periods) (master_in master) _ _
-      (λ m. by-eq (λ (a : Checked). a.yes ≡ true → Right master pitches periods) (length pitches) (length periods)
-      (λ l. by_cond (λ (a : Checked). a.yes ≡ true → Right master pitches periods) (every pitch_in pitches) _ _
+      let P : Result Bool Refusal → Type 0 = λ a. a ≡ Ok true → Right master pitches periods in
+      by_cond P (master_in master) _ _
+      (λ m. by-eq P (length pitches) (length periods)
+      (λ l. by_cond P (every pitch_in pitches) _ _
       (λ p e. record {
         master-in = master-is master m;
         same = l;
         pitches-in = pitch-at pitches p;
-        each = yes-means master pitches periods l e;
+        each = yes-means master pitches periods l (let z : each_nearest master pitches periods ≡ true = cc in z);
       })
-      (λ _ e. never e))
-      (λ _ e. never e))
-      (λ _ e. never e)
+      (λ _ e. absurd cc))
+      (λ _ e. absurd cc))
+      (λ _ e. absurd cc)
 
-  says : Right master pitches periods → (are_nearest master pitches periods).yes ≡ true
+  says : Right master pitches periods → are_nearest master pitches periods ≡ Ok true
   unfolding are_nearest
   says r =
       rw (master-passes master r.master-in, eq-eqb (length pitches) (length periods) r.same, pitches-pass pitches r.pitches-in)
-      (means-yes master pitches periods r.each)
+      (ap (λ (b : Bool). Ok b) (means-yes master pitches periods r.each))
 
 pub says-yes : SaysYes
 says-yes master pitches periods = (said master pitches periods, says master pitches periods)

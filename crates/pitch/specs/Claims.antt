@@ -3,8 +3,7 @@
 --
 -- The idea of the proof: tones fall as periods rise. Of two tones at the pitch or above it the higher period's is nearer, of two at the
 -- pitch or below it the lower period's; so the nearest period is one of the two around the quotient, or an end of the range.
-use Rattle.std.specs.Prelude.{true, List, ◌↔◌, ◌≡◌, ℕ, ◌*◌, ◌≤◌, ◌<◌, length, get_or}
-use Rattle.refusals.specs.Numbers.{accepted}
+use Rattle.std.specs.Prelude.{true, List, ◌↔◌, ◌≡◌, ℕ, ◌*◌, ◌≤◌, ◌<◌, length, get_or, Ok}
 use Rattle.pitch.specs.Pitch.{off, nearest_to, nearest_period, each_nearest, are_nearest}
 
 -- "a master clock from 8 to 1,073,741,823 and a pitch in whole millihertz from 1 to 20,000,000"
@@ -34,7 +33,7 @@ OneNearest = (master pitch s t : ℕ) → IsNearest master pitch s → IsNearest
 
 -- An accepted answer of the first call is nearest.
 abbrev pub Finds : Type 0
-Finds = (master pitch : ℕ) → (nearest_period master pitch).no ≡ accepted → IsNearest master pitch (nearest_period master pitch).period
+Finds = (master pitch t : ℕ) → nearest_period master pitch ≡ Ok t → IsNearest master pitch t
 
 -- "each period is that one"
 abbrev pub EachIs : ℕ → List ℕ → List ℕ → Type 0
@@ -53,7 +52,7 @@ pub record Right (master : ℕ) (pitches periods : List ℕ) : Type 0 where
   pub each : EachIs master pitches periods
 
 abbrev pub SaysYes : Type 0
-SaysYes = (master : ℕ) (pitches periods : List ℕ) → ((are_nearest master pitches periods).yes ≡ true) ↔ Right master pitches periods
+SaysYes = (master : ℕ) (pitches periods : List ℕ) → (are_nearest master pitches periods ≡ Ok true) ↔ Right master pitches periods
 
 -- Worked: A4 and C4 at 2,000,000. The quotient 1,000 × master / (16 × pitch) is 2.4, a tie, and the smaller period; 2.45, which a rounding
 -- would make 2. Midway between the tones of 4 and 5. Above every tone, and below every one.

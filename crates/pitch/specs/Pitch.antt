@@ -1,9 +1,8 @@
 -- Nearest period for a wanted note. 02, request 12. Assumes nothing.
-use Rattle.std.specs.Prelude.{Bool, true, false, cond, List, [], ◌∷◌, ℕ, zero, suc, ◌+◌, ◌-◌, ◌*◌, eqb, leb, ltb, length}
+use Rattle.std.specs.Prelude.{Bool, true, false, cond, List, [], ◌∷◌, ℕ, zero, suc, ◌+◌, ◌-◌, ◌*◌, eqb, leb, ltb, length, Result, Ok, Err}
 use Rattle.laws.specs.All.{every}
-use Rattle.refusals.specs.Numbers.{accepted, master_too_high, pitch_out_of_range, lists_differ}
-use Rattle.pitch.specs.declared.Found.{Found}
-use Rattle.pitch.specs.declared.Checked.{Checked}
+use Rattle.refusals.specs.declared.Refusal.{Refusal}
+use Rattle.refusals.specs.declared.Refusal.TheVariants.{MasterTooHigh, PitchOutOfRange, ListsDiffer}
 
 -- "Given a master clock from 8 to 1,073,741,823 and a pitch in whole millihertz from 1 to 20,000,000"
 unfoldable pub master_in : ℕ → Bool
@@ -37,17 +36,12 @@ nearest_of (suc n) master pitch =
 unfoldable pub nearest_to : ℕ → ℕ → ℕ
 nearest_to master pitch = nearest_of 4093 master pitch
 
--- "A refusal returns period 0"
-abbrev pub refused : ℕ → Found
-refused number = record { no = number; period = 0 }
-
 -- "Refusals, in this order: 1, here also for a master below 8; .. 19, a pitch of 0 or above 20,000,000."
-unfoldable pub nearest_period : ℕ → ℕ → Found
+unfoldable pub nearest_period : ℕ → ℕ → Result ℕ Refusal
 nearest_period master pitch =
     cond (master_in master)
-    (cond (pitch_in pitch) (record { no = accepted; period = nearest_to master pitch })
-    (refused pitch_out_of_range))
-    (refused master_too_high)
+    (cond (pitch_in pitch) (Ok (nearest_to master pitch)) (Err PitchOutOfRange))
+    (Err MasterTooHigh)
 
 -- "says yes exactly if each period is that one"; "empty lists are a yes". Lists of one length come here.
 unfoldable pub each_nearest : ℕ → List ℕ → List ℕ → Bool
@@ -55,16 +49,12 @@ each_nearest master [] periods = true
 each_nearest master (p ∷ pitches) [] = true
 each_nearest master (p ∷ pitches) (t ∷ periods) = cond (eqb t (nearest_to master p)) (each_nearest master pitches periods) false
 
--- "A refusal returns .. no"
-abbrev pub unanswered : ℕ → Checked
-unanswered number = record { no = number; yes = false }
-
 -- "in this order: 1 ..; 20, two lists of different lengths; 19, a pitch of 0 or above 20,000,000", of any pitch of the list
-unfoldable pub are_nearest : ℕ → List ℕ → List ℕ → Checked
+unfoldable pub are_nearest : ℕ → List ℕ → List ℕ → Result Bool Refusal
 are_nearest master pitches periods =
     cond (master_in master)
     (cond (eqb (length pitches) (length periods))
-    (cond (every pitch_in pitches) (record { no = accepted; yes = each_nearest master pitches periods })
-    (unanswered pitch_out_of_range))
-    (unanswered lists_differ))
-    (unanswered master_too_high)
+    (cond (every pitch_in pitches) (Ok (each_nearest master pitches periods))
+    (Err PitchOutOfRange))
+    (Err ListsDiffer))
+    (Err MasterTooHigh)

@@ -3,78 +3,43 @@
 
 ghost use Rattle.std.specs.Prelude.{true, ◌≡◌, length};
 ghost use Rattle.laws.specs.All.{every};
-ghost use Rattle.pitch.specs.Pitch.{are_nearest, each_nearest, master_in, nearest_period, nearest_to, pitch_in, unanswered};
+ghost use Rattle.pitch.specs.Pitch.{are_nearest, each_nearest, master_in, nearest_period, nearest_to, pitch_in};
 ghost use Rattle.pitch.specs.Claims.{MasterIn, PitchIn};
+
+use refusals::Refusal;
 
 // In hertz. A chip takes lower masters too (01); `clocks` has its limit, which is the higher one.
 pub const LOWEST_MASTER: u32 = 8;
 
 pub const HIGHEST_MASTER: u32 = 1_073_741_823;
 
-// `no` 0 is accepted. Any other number is the refusal, and the period is 0.
-#[derive(Clone, Copy)]
-pub struct Found {
-    pub no: u8,
-    pub period: u16,
-}
-
-// `no` 0 is accepted. Any other number is the refusal, and `yes` is false.
-#[derive(Clone, Copy)]
-pub struct Checked {
-    pub no: u8,
-    pub yes: bool,
-}
-
 // The pitch is in thousandths of a hertz.
-pub fn nearest_period(master: u32, pitch: u32) -> Found
+pub fn nearest_period(master: u32, pitch: u32) -> Result<u16, Refusal>
     ensures { result ≡ nearest_period master pitch }
 {
     if !master_in(master) {
-        return Found {
-            no: refusals::MASTER_TOO_HIGH,
-            period: 0,
-        };
+        return Err(Refusal::MasterTooHigh);
     }
     if !pitch_in(pitch) {
-        return Found {
-            no: refusals::PITCH_OUT_OF_RANGE,
-            period: 0,
-        };
+        return Err(Refusal::PitchOutOfRange);
     }
-    let period = nearest(master, pitch);
-    Found {
-        no: refusals::ACCEPTED,
-        period,
-    }
+    Ok(nearest(master, pitch))
 }
 
 // Whether each period is the nearest to the pitch at its place.
-pub fn are_nearest<'t>(master: u32, pitches: &'t [u32], periods: &'t [u16]) -> Checked
+pub fn are_nearest<'t>(master: u32, pitches: &'t [u32], periods: &'t [u16]) -> Result<bool, Refusal>
     ensures { result ≡ are_nearest master pitches.now periods.now }
 {
     if !master_in(master) {
-        return no_answer(refusals::MASTER_TOO_HIGH);
+        return Err(Refusal::MasterTooHigh);
     }
     if pitches.len() != periods.len() {
-        return no_answer(refusals::LISTS_DIFFER);
+        return Err(Refusal::ListsDiffer);
     }
     if !pitches_in(pitches) {
-        return no_answer(refusals::PITCH_OUT_OF_RANGE);
+        return Err(Refusal::PitchOutOfRange);
     }
-    let yes = each_nearest(master, pitches, periods);
-    Checked {
-        no: refusals::ACCEPTED,
-        yes,
-    }
-}
-
-fn no_answer(number: u8) -> Checked
-    ensures { result ≡ unanswered number }
-{
-    Checked {
-        no: number,
-        yes: false,
-    }
+    Ok(each_nearest(master, pitches, periods))
 }
 
 fn master_in(master: u32) -> bool
@@ -123,12 +88,10 @@ fn nearest(master: u32, pitch: u32) -> u16
 fn pitches_in(pitches: &[u32]) -> bool
     ensures { result ≡ every pitch_in pitches.now }
 {
-    let mut i = 0;
-    while i < pitches.len() {
-        if !pitch_in(pitches[i]) {
+    for &pitch in pitches {
+        if !pitch_in(pitch) {
             return false;
         }
-        i += 1;
     }
     true
 }
@@ -139,12 +102,10 @@ fn each_nearest<'t>(master: u32, pitches: &'t [u32], periods: &'t [u16]) -> bool
     requires pitches_value { every pitch_in pitches.now ≡ true }
     ensures { result ≡ each_nearest master pitches.now periods.now }
 {
-    let mut i = 0;
-    while i < pitches.len() {
-        if periods[i] != nearest(master, pitches[i]) {
+    for (i, &pitch) in pitches.iter().enumerate() {
+        if periods[i] != nearest(master, pitch) {
             return false;
         }
-        i += 1;
     }
     true
 }

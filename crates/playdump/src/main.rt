@@ -1,11 +1,14 @@
 // The dump player: a dump on standard input, its words on standard output. 01, "The dump player".
 #![tactic(auto)]
 
-ghost use Rattle.std.specs.Prelude.{◌≡◌, ◌≤◌, IfOk, length};
+ghost use Rattle.std.specs.Prelude.{◌≡◌, IfOk, length};
 ghost use Rattle.dump_played.specs.Whole.{printed};
-ghost use Rattle.playdump.specs.Written.{NextBytes};
+ghost use Rattle.laws_player.proofs.Standing.{Stands, rest_of};
+ghost use Rattle.laws_player.proofs.Short.{printed-short};
 
+use dump_player::Player;
 use failures::failed;
+use pieces_out::Pieces;
 use std::io;
 use std::process::ExitCode;
 
@@ -21,36 +24,35 @@ fn main(rt: HostRuntime) -> ExitCode {
     }
 }
 
-// How many bytes were written.
+// Answers how many bytes were written.
 fn play(rt: &impl Print, text: &[u8]) -> io::Result<usize>
     ensures { IfOk result (λ bytes. bytes ≡ length (printed text.now)) }
 {
     let mut out = [0u8; 65536];
-    hand_out(rt, text, &mut out)
+    let player = dump_player::start(text);
+    let mut playing = Playing { text, player };
+    playing.write_out(rt, &mut out)
 }
 
-// Piece after piece, until the empty one or a write that fails.
-fn hand_out(rt: &impl Print, text: &[u8], out: &mut [u8]) -> io::Result<usize>
-    requires { 32 ≤ length out.old }
-    ensures { IfOk result (λ bytes. bytes ≡ length (printed text.now)) }
-{
-    let mut player = dump_player::start(text);
-    let mut bytes = 0;
-    loop {
-        let piece = dump_player::next_piece(player, text, out);
-        let n = piece.length;
-        if n == 0 {
-            return Ok(bytes);
-        }
-        write_next(rt, text, bytes, &out[..n])?;
-        bytes += n;
-        player = piece.player;
+// A dump, and how far it is played.
+#[derive(Drop)]
+struct Playing<'t> {
+    text: &'t [u8],
+    player: Player,
+}
+
+impl Pieces for Playing<'_> {
+    ghost whole = { λ p. printed p.text.now };
+
+    ghost rest = { λ p. rest_of p.text.now p.player };
+
+    ghost stands = { λ p. Stands p.text.now p.player };
+
+    ghost short = { λ p. printed-short p.text.now };
+
+    fn next_piece(&mut self, out: &mut [u8]) -> usize {
+        let piece = dump_player::next_piece(self.player, self.text, out);
+        self.player = piece.player;
+        piece.length
     }
-}
-
-// What is proved ends here: each write is asked for the output's next bytes. That they are written is the kit's.
-fn write_next(rt: &impl Print, text: &[u8], place: usize, bytes: &[u8]) -> io::Result<()>
-    requires { NextBytes text.now place bytes.now }
-{
-    rt.write_all(bytes)
 }

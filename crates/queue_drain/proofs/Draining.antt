@@ -1,20 +1,27 @@
 -- The drain's loop, a write at a time: what is left to do from here gives what the whole does. Assumes nothing.
-use mathlib.Core.List.{List, [], ◌∷◌}
+use mathlib.Core.List.{◌∷◌}
 use mathlib.Core.Path.{◌≡◌, refl, sym, ap, ◌∙◌}
 use Prim.Native.Nat.{ℕ, suc, ◌+◌, ◌-◌, ◌%◌, ◌≤◌, ◌<◌}
 use native.Mathlib.Omega.{arith}
-use lib.ListN.{get_or, length}
+use lib.ListN.{length}
 use Rattle.registers.specs.declared.Voice.{Voice}
 use Rattle.registers.specs.Registers.{apply_register}
 use Rattle.queue.specs.declared.Queue.{Queue}
-use Rattle.queue.specs.Waiting.{writes_from, waiting, due, dropped, ring, QueueInRange}
+use Rattle.queue.specs.Waiting.{waiting, due, dropped, emptied, ring, QueueInRange}
 use Rattle.registers.specs.Writes.{applied_in_order}
 use Rattle.queue_flush.specs.Applied.{register_writes}
 use Rattle.queue_drain.specs.Drain.{AfterDrain, drain, Drains}
-use Rattle.queue.proofs.Due.{due-on, due-stops}
-use Rattle.queue.proofs.Laws.{dropped-kept}
-use Rattle.queue_drain.proofs.Resting.{front, front-waits, drain-rests}
+use Rattle.queue.proofs.Due.{due-on}
+use Rattle.queue.proofs.Laws.{dropped-kept, emptied-dropped, emptied-kept}
+use Rattle.queue_drain.proofs.Resting.{dropped-none, front, front-waits, drain-late, drain-none}
 use Rattle.queue_drain.proofs.Ruled.{waiting-drain}
+
+-- one more dropped
+dropped-more : (i : ℕ) (q : Queue) → dropped (i + 1) q ≡ dropped 1 (dropped i q)
+dropped-more i q =
+    let place : (q.head + (i + 1)) % 256 ≡ ((q.head + i) % 256 + 1) % 256 = omega arith in
+    let count : q.count - (i + 1) ≡ q.count - i - 1 = omega arith in
+    rw (place, count)
 
 -- the front is due: a drain applies it and goes on behind it
 drain-on : (end : ℕ) (v : Voice) (q : Queue) → QueueInRange q → 0 < q.count → (front q).stamp ≤ end
@@ -29,40 +36,42 @@ drain-on end v q ok some h =
     let b : q.count - suc k ≡ q.count - 1 - k = omega arith in
     rw e (rw (a, b))
 
-pub record Draining (end : ℕ) (v₀ v : Voice) (q₀ q : Queue) : Type 0 where
+-- the first i writes are applied
+pub record Draining (end : ℕ) (v₀ v : Voice) (q : Queue) (i : ℕ) : Type 0 where
   pub ok : QueueInRange q
-  pub rest : drain end v q ≡ drain end v₀ q₀
+  pub rest : drain end v (dropped i q) ≡ drain end v₀ q
 
-pub draining-start : (end : ℕ) (v : Voice) (q : Queue) → QueueInRange q → Draining end v v q q
-draining-start end v q h = record { ok = h; rest = refl }
+pub draining-start : (end : ℕ) (v : Voice) (q : Queue) → QueueInRange q → Draining end v v q 0
+draining-start end v q h = record { ok = h; rest = ap (drain end v) (dropped-none q h) }
 
--- the ring is lent: its arrays stay, and its place and count are the loop's
-module _ {end h₀ n₀ h n : ℕ} {a b c : List ℕ} {v₀ v : Voice} (i : Draining end v₀ v (ring a b c h₀ n₀) (ring a b c h n)) where
-  pub draining-on : {v' : Voice} → 0 < n → get_or a h 0 ≤ end → v' ≡ apply_register (get_or b h 0) (get_or c h 0) v
-      → Draining end v₀ v' (ring a b c h₀ n₀) (ring a b c ((h + 1) % 256) (n - 1))
+-- the ring is lent: its arrays stay, and its place and count come back
+pub drained : {end h n : ℕ} {v₀ v : Voice} {q : Queue} → record { voice = v; queue = ring q.stamps q.registers q.values h n } ≡ drain end v₀ q
+    → Drains end v₀ q (record { voice = v; head = h; count = n })
+drained {end} {h} {n} {v₀} {v} {q} e =
+    record {
+      small = ap (λ (r : AfterDrain). record { voice = r.voice; head = r.queue.head; count = r.queue.count }) e;
+      list = ap (λ (r : AfterDrain). waiting r.queue) e ∙ waiting-drain end v₀ q;
+    }
+
+module _ {end i : ℕ} {v₀ v : Voice} {q : Queue} (d : Draining end v₀ v q i) where
+  pub draining-on : {v' : Voice} → i < q.count → (front (dropped i q)).stamp ≤ end
+      → v' ≡ apply_register (front (dropped i q)).register (front (dropped i q)).value v → Draining end v₀ v' q (i + 1)
   draining-on {v'} some due e =
-      let q = ring a b c h n in
-      record { ok = dropped-kept 1 q i.ok; rest = rw e (sym (drain-on end v q i.ok some due) ∙ i.rest) }
-
-  drained : due end (waiting (ring a b c h n)) ≡ [] → Drains end v₀ (ring a b c h₀ n₀) (record { voice = v; head = h; count = n })
-  drained e =
-      let whole : record { voice = v; queue = ring a b c h n } ≡ drain end v₀ (ring a b c h₀ n₀)
-      = sym (drain-rests end v (ring a b c h n) i.ok e) ∙ i.rest
-      in
+      let more : 0 < q.count - i = omega arith in
       record {
-        small = ap (λ (r : AfterDrain). record { voice = r.voice; head = r.queue.head; count = r.queue.count }) whole;
-        list = ap (λ (r : AfterDrain). waiting r.queue) whole ∙ waiting-drain end v₀ (ring a b c h₀ n₀);
+        ok = d.ok;
+        rest = rw e (ap (drain end _) (dropped-more i q) ∙ sym (drain-on end v (dropped i q) (dropped-kept i q d.ok) more due) ∙ d.rest);
       }
 
   -- the first later stamp stops it
-  pub draining-late : 0 < n → end < get_or a h 0 → Drains end v₀ (ring a b c h₀ n₀) (record { voice = v; head = h; count = n })
+  pub draining-late : i < q.count → end < (front (dropped i q)).stamp → Drains end v₀ q (record { voice = v; head = (q.head + i) % 256; count = q.count - i })
   draining-late some late =
-      let q = ring a b c h n in
-      drained (ap (due end) (front-waits q i.ok some) ∙ due-stops end (front q) (waiting (dropped 1 q)) late)
+      let more : 0 < q.count - i = omega arith in
+      drained (sym (drain-late end v (dropped i q) (dropped-kept i q d.ok) more late) ∙ d.rest)
 
   -- no write waits
-  pub draining-end : n ≤ 0 → Drains end v₀ (ring a b c h₀ n₀) (record { voice = v; head = h; count = n })
-  unfolding waiting writes_from due
-  draining-end none =
-      let e : n ≡ 0 = omega arith in
-      drained (ap (λ (m : ℕ). due end (writes_from m h (ring a b c h n))) e)
+  pub draining-end : i ≤ q.count → q.count ≤ i → Drains end v₀ q (record { voice = v; head = (q.head + q.count) % 256; count = 0 })
+  draining-end few h =
+      let all : i ≡ q.count = omega arith in
+      let rest = rw (all, ← emptied-dropped q) at d.rest in
+      drained (sym (drain-none end v (emptied q) (emptied-kept q d.ok) refl) ∙ rest)

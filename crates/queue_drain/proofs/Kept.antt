@@ -1,16 +1,14 @@
 -- Writes applied one by one are told by the bytes and the settings that they leave. Assumes nothing.
-use mathlib.Core.Bool.{false}
-use mathlib.Core.Path.{◌≡◌, refl, subst}
+use mathlib.Core.Path.{◌≡◌, subst}
 use Prim.Native.Nat.{ℕ}
 use Rattle.settling.specs.declared.Settings.{Settings}
-use Rattle.settling.specs.Settling.{settings_of, settled_of}
+use Rattle.settling.specs.Settling.{settings_of}
 use Rattle.settling.proofs.Rest.{SameRest, applied-rest}
 use Rattle.registers.specs.declared.Voice.{Voice}
 use Rattle.queue.specs.declared.Queue.{Queue}
 use Rattle.queue_drain.specs.declared.Drained.{Drained}
-use Rattle.queue_drain.specs.declared.Stored.{Stored}
 use Rattle.queue_drain.specs.Drain.{drain, Drains}
-use Rattle.queue_drain.specs.Due.{drained_with, Stores}
+use Rattle.queue_drain.specs.Due.{drained_with}
 
 drain_rest : (end : ℕ) (v : Voice) (q : Queue) → SameRest v (drain end v q).voice
 unfolding drain
@@ -22,9 +20,3 @@ pub drains-told : {end : ℕ} {v : Voice} {q : Queue} {d : Drained} {s : Setting
 drains-told {end} {v} {q} {d} {s} i e =
     let kept : SameRest v d.voice = rw i.small (drain_rest end v q) in
     rw e (subst (λ (x : Voice). Drains end v q (record { voice = x; head = d.head; count = d.count })) kept.same i)
-
--- what was stored, settled as a call does it
-pub drains-settled : {end : ℕ} {v : Voice} {q : Queue} {s : Stored} {before after : Settings} → v.irq ≡ false → Stores end v.registers q s
-    → before ≡ settings_of v.generators v.gates → after ≡ settled_of s.bytes s.marks before
-    → Drains end v q (drained_with v (record { bytes = s.bytes; settings = after; head = s.head; count = s.count }))
-drains-settled {v = v} off i e f = rw (f, e) (i.drains v off refl)

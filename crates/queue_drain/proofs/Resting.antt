@@ -23,13 +23,17 @@ front-waits q h some =
     let e : q.head % 256 ≡ q.head = omega (arith, h.head) in
     waiting-front q some ∙ rw e
 
+-- none dropped
+pub dropped-none : (q : Queue) → QueueInRange q → dropped 0 q ≡ q
+dropped-none q h =
+    let a : (q.head + 0) % 256 ≡ q.head = omega (arith, h.head) in
+    let b : q.count - 0 ≡ q.count = omega arith in
+    rw (a, b)
+
 -- nothing due: the drain changes nothing
 pub drain-rests : (end : ℕ) (v : Voice) (q : Queue) → QueueInRange q → due end (waiting q) ≡ [] → drain end v q ≡ record { voice = v; queue = q }
 unfolding drain applied_in_order register_writes
-drain-rests end v q h e =
-    let a : (q.head + 0) % 256 ≡ q.head = omega (arith, h.head) in
-    let b : q.count - 0 ≡ q.count = omega arith in
-    rw e (rw (a, b))
+drain-rests end v q h e = rw e (rw (dropped-none q h))
 
 -- the first waiting write is later
 pub drain-late : (end : ℕ) (v : Voice) (q : Queue) → QueueInRange q → 0 < q.count → end < (front q).stamp → drain end v q ≡ record { voice = v; queue = q }

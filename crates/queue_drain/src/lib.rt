@@ -104,15 +104,14 @@ fn store_due(
 {
     let mut kept = bytes;
     let mut marks: u32 = 0;
-    let mut slot = head;
-    let mut rest = count;
-    while rest > 0 {
+    for i in 0..count {
+        let slot = (head + i) % 256;
         if stamps[slot] > end {
             return Stored {
                 bytes: kept,
                 marks,
                 head: slot,
-                count: rest,
+                count: count - i,
             };
         }
         let register = registers[slot];
@@ -122,14 +121,12 @@ fn store_due(
             kept = after;
             marks = stored_bytes::mark(marks, register);
         }
-        slot = (slot + 1) % 256;
-        rest = rest - 1;
     }
     Stored {
         bytes: kept,
         marks,
-        head: slot,
-        count: rest,
+        head: (head + count) % 256,
+        count: 0,
     }
 }
 
@@ -197,23 +194,20 @@ fn drain_due(
     ensures { Drains end voice (ring stamps.now registers.now values.now head count) result }
 {
     let mut v = voice;
-    let mut at = head;
-    let mut left = count;
-    while left > 0 {
+    for k in 0..count {
+        let at = (head + k) % 256;
         if stamps[at] > end {
             return Drained {
                 voice: v,
                 head: at,
-                count: left,
+                count: count - k,
             };
         }
         v = v.apply_register(registers[at], values[at]);
-        at = (at + 1) % 256;
-        left = left - 1;
     }
     Drained {
         voice: v,
-        head: at,
-        count: left,
+        head: (head + count) % 256,
+        count: 0,
     }
 }

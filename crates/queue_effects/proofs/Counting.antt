@@ -2,7 +2,7 @@
 use mathlib.Core.Bool.{false, not}
 use mathlib.Core.List.{List, [], ◌∷◌}
 use mathlib.Core.Path.{◌≡◌, ap, ◌∙◌}
-use Prim.Native.Nat.{ℕ, suc, ◌+◌, ◌-◌, ◌%◌, ◌≤◌, ◌<◌}
+use Prim.Native.Nat.{ℕ, ◌+◌, ◌-◌, ◌%◌, ◌≤◌, ◌<◌}
 use native.Mathlib.Omega.{arith}
 use borrow.Author.Tests.{ne_eqb}
 use lib.Dec.{eqb}
@@ -13,50 +13,36 @@ use Rattle.write_effects.specs.declared.Effect.{Effect}
 use Rattle.write_effects.specs.Effects.{bytes_after, changed_by, changes_in, effect_of, effects_of, one, restarted_by, restarts_in}
 use Rattle.write_effects.proofs.Differing.{one-le}
 use Rattle.write_effects.proofs.OneWrite.{after_none, after-stored, effect-none, effect-stored}
-use Rattle.queue.specs.declared.Queue.{Queue}
-use Rattle.queue.specs.declared.Write.{Write}
 use Rattle.queue.specs.Waiting.{ring, writes_from}
-use Rattle.queue.proofs.Ring.{from, from_cons, from-round}
+use Rattle.queue.proofs.Ring.{from-next}
 use Rattle.queue_flush.specs.Applied.{register_writes}
 use Rattle.queue_effects.specs.Slots.{writes_at}
 
-pub record Counting (registers values : List ℕ) (head applied : ℕ) (bytes₀ bytes : List ℕ) (changed restarted at left : ℕ) : Type 0 where
-  pub place : at < 256
+-- the first i writes are counted
+pub record Counting (registers values : List ℕ) (head applied : ℕ) (bytes₀ bytes : List ℕ) (changed restarted i : ℕ) : Type 0 where
   pub long : length bytes ≡ 14
-  pub changed-few : changed + left ≤ 256
-  pub restarted-few : restarted + left ≤ 256
-  pub changes : changed + changes_in (writes_at registers values at left) bytes ≡ changes_in (writes_at registers values head applied) bytes₀
-  pub restarts : restarted + restarts_in (writes_at registers values at left) ≡ restarts_in (writes_at registers values head applied)
+  pub changed-few : changed ≤ i
+  pub restarted-few : restarted ≤ i
+  pub changes : changed + changes_in (writes_at registers values (head + i) (applied - i)) bytes ≡ changes_in (writes_at registers values head applied) bytes₀
+  pub restarts : restarted + restarts_in (writes_at registers values (head + i) (applied - i)) ≡ restarts_in (writes_at registers values head applied)
 
-pub counting-start : (registers values : List ℕ) (head applied : ℕ) (bytes : List ℕ) → (head < 256) × (applied ≤ 256) → length bytes ≡ 14 → Counting registers values head applied bytes bytes 0 0 head applied
-counting-start registers values head applied bytes (h, k) long =
-    record { place = h; long = long; changed-few = omega arith; restarted-few = omega arith; changes = omega arith; restarts = omega arith }
-
-module _ {registers values : List ℕ} {head applied : ℕ} {bytes₀ bytes : List ℕ} {changed restarted at left : ℕ}
-    (s : Counting registers values head applied bytes₀ bytes changed restarted at left) where
-  abbrev first : RegisterWrite
-  first = record { register = get_or registers at 0; value = get_or values at 0 }
-
-  next : 0 < left → writes_at registers values at left ≡ first ∷ writes_at registers values ((at + 1) % 256) (left - 1)
-  unfolding register_writes
-  next some =
-      let q : Queue = ring [] registers values 0 0 in
-      let more : left ≡ suc (left - 1) = omega arith in
-      let here : at % 256 ≡ at = omega (arith, s.place) in
-      let round : (at + 1) % 256 ≡ (at + 1) % 256 % 256 = omega arith in
-      ap register_writes (ap (λ (n : ℕ). from q n at) more ∙ from_cons q (left - 1) at)
-      ∙ rw here (ap (λ (l : List Write). first ∷ register_writes l) (from-round q (left - 1) (at + 1) ((at + 1) % 256) round))
-
+module _ {registers values : List ℕ} {head applied : ℕ} {bytes₀ bytes : List ℕ} {changed restarted i : ℕ}
+    (s : Counting registers values head applied bytes₀ bytes changed restarted i) where
   abbrev register : ℕ
-  register = get_or registers at 0
+  register = get_or registers ((head + i) % 256) 0
 
   abbrev value : ℕ
-  value = get_or values at 0
+  value = get_or values ((head + i) % 256) 0
+
+  next : i < applied → writes_at registers values (head + i) (applied - i)
+      ≡ record { register = register; value = value } ∷ writes_at registers values (head + (i + 1)) (applied - (i + 1))
+  unfolding register_writes
+  next some = ap register_writes (from-next (ring [] registers values 0 0) applied i head some)
 
   -- the next write counted, and the bytes that it leaves
-  counting-on : {effect : Effect} {c r : ℕ} {after : List ℕ} → 0 < left → effect ≡ effect_of register value bytes
+  counting-on : {effect : Effect} {c r : ℕ} {after : List ℕ} → i < applied → effect ≡ effect_of register value bytes
       → c ≡ changed + one effect.changed → r ≡ restarted + one effect.restarted → after ≡ bytes_after register value bytes → length after ≡ 14
-      → Counting registers values head applied bytes₀ after c r ((at + 1) % 256) (left - 1)
+      → Counting registers values head applied bytes₀ after c r (i + 1)
   unfolding changes_in restarts_in
   counting-on {effect} {c} {r} {after} some e ec er ea long =
       let c' : c ≡ changed + one (changed_by register value bytes) = rw e at ec in
@@ -68,7 +54,6 @@ module _ {registers values : List ℕ} {head applied : ℕ} {bytes₀ bytes : Li
       let one-change = one-le (changed_by register value bytes) in
       let one-restart = one-le (restarted_by register) in
       record {
-        place = omega arith;
         long = long;
         changed-few = omega (arith, s.changed-few);
         restarted-few = omega (arith, s.restarted-few);
@@ -77,25 +62,25 @@ module _ {registers values : List ℕ} {head applied : ℕ} {bytes₀ bytes : Li
       }
 
   -- it is stored, or its register is none of the fourteen
-  pub counting-stored : {byte c r : ℕ} {after : List ℕ} → 0 < left → register < 14 → byte ≡ masked register value
+  pub counting-stored : {byte c r : ℕ} {after : List ℕ} → i < applied → register < 14 → byte ≡ masked register value
       → c ≡ changed + one (not (eqb byte (get_or bytes register 0))) → after ≡ set bytes register byte → r ≡ restarted + one (eqb register 13)
-      → Counting registers values head applied bytes₀ after c r ((at + 1) % 256) (left - 1)
+      → Counting registers values head applied bytes₀ after c r (i + 1)
   counting-stored {byte} {c} {r} {after} some h eb ec ea er =
       let stored : after ≡ set bytes register (masked register value) = rw eb at ea in
       let long : length after ≡ 14 = rw stored (simp length-set s.long) in
       counting-on some (effect-stored register value bytes h s.long) (rw eb at ec) er (stored ∙ after-stored register value bytes h) long
 
-  pub counting-past : {c r : ℕ} {after : List ℕ} → 0 < left → 14 ≤ register → c ≡ changed → after ≡ bytes → r ≡ restarted + one (eqb register 13)
-      → Counting registers values head applied bytes₀ after c r ((at + 1) % 256) (left - 1)
+  pub counting-past : {c r : ℕ} {after : List ℕ} → i < applied → 14 ≤ register → c ≡ changed → after ≡ bytes → r ≡ restarted + one (eqb register 13)
+      → Counting registers values head applied bytes₀ after c r (i + 1)
   counting-past {c} {r} {after} some h ec ea er =
       let none : eqb register 13 ≡ false = ne_eqb register 13 (omega arith) in
       let same : c ≡ changed + 0 = omega arith in
       counting-on some (effect-none register value bytes h) same (rw none at er) (ea ∙ after_none register value bytes h) (rw ea s.long)
 
-  pub counting-end : left ≤ 0 → record { changed = changed; restarted = restarted } ≡ effects_of (writes_at registers values head applied) bytes₀
+  pub counting-end : applied ≤ i → record { changed = changed; restarted = restarted } ≡ effects_of (writes_at registers values head applied) bytes₀
   unfolding changes_in restarts_in register_writes writes_from
   counting-end h =
-      let none : left ≡ 0 = omega arith in
+      let none : applied - i ≡ 0 = omega arith in
       let c : changed + 0 ≡ changes_in (writes_at registers values head applied) bytes₀ = rw none at s.changes in
       let r : restarted + 0 ≡ restarts_in (writes_at registers values head applied) = rw none at s.restarts in
       let c' : changed ≡ changes_in (writes_at registers values head applied) bytes₀ = omega arith in

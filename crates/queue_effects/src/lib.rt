@@ -21,9 +21,8 @@ pub fn effects<'t>(
     let mut changed: u32 = 0;
     let mut restarted: u32 = 0;
     let mut held = bytes;
-    let mut at = head;
-    let mut left = applied;
-    while left > 0 {
+    for i in 0..applied {
+        let at = (head + i) % 256;
         let register = registers[at];
         if register < registers::REGISTERS {
             let place = register as usize;
@@ -32,8 +31,6 @@ pub fn effects<'t>(
             held[place] = byte;
         }
         restarted = write_effects::counted(restarted, register == 13);
-        at = (at + 1) % 256;
-        left = left - 1;
     }
     Effects { changed, restarted }
 }

@@ -20,12 +20,9 @@ pub fn flush<'t>(
     ensures { result ≡ apply_all (waiting (ring stamps.now registers.now values.now head count)) voice }
 {
     let mut v = voice;
-    let mut at = head;
-    let mut left = count;
-    while left > 0 {
+    for i in 0..count {
+        let at = (head + i) % 256;
         v = v.apply_register(registers[at], values[at]);
-        at = (at + 1) % 256;
-        left = left - 1;
     }
     v
 }

@@ -1,5 +1,7 @@
 -- Numbers a call can answer. 01, the table of that name, with 02's later numbers. Assumes nothing.
-use Rattle.std.specs.Prelude.{ℕ}
+use Rattle.std.specs.Prelude.{ℕ, Result, Ok, Err}
+use Rattle.refusals.specs.declared.Refusal.{Refusal}
+use Rattle.refusals.specs.declared.Refusal.TheVariants.{MasterTooHigh, RateZero, RateTooHigh, QueueFull, BlockTooLong, BlockTooLate, NoSuchChannel, LineNotOfForm, SizeOutOfRange, BytesAfterTheEnd, DumpTooLong, StampLower, NoSuchVariant, PitchOutOfRange, ListsDiffer, OutOfRange}
 
 -- accepted
 abbrev pub accepted : ℕ
@@ -68,3 +70,27 @@ lists_differ = 20
 -- a handed-in chip record out of range
 abbrev pub out_of_range : ℕ
 out_of_range = 22
+
+-- the number of each refusal that the code names
+abbrev pub number_of : Refusal → ℕ
+number_of MasterTooHigh = master_too_high
+number_of RateZero = rate_zero
+number_of RateTooHigh = rate_too_high
+number_of QueueFull = queue_full
+number_of BlockTooLong = block_too_long
+number_of BlockTooLate = block_too_late
+number_of NoSuchChannel = no_such_channel
+number_of LineNotOfForm = line_not_of_form
+number_of SizeOutOfRange = size_out_of_range
+number_of BytesAfterTheEnd = bytes_after_the_end
+number_of DumpTooLong = dump_too_long
+number_of StampLower = stamp_lower
+number_of NoSuchVariant = no_such_variant
+number_of PitchOutOfRange = pitch_out_of_range
+number_of ListsDiffer = lists_differ
+number_of OutOfRange = out_of_range
+
+-- what a test answers: 0, or the number of its refusal
+abbrev pub answer_no : {A : Type 0} → Result A Refusal → ℕ
+answer_no (Ok _) = accepted
+answer_no (Err why) = number_of why

@@ -1,35 +1,76 @@
 // The chip after a call, and what the call answers, by the struct that it gives back.
-use crate::said;
 use crate::said::{Rest, Said};
 use answers::{Answered, Applied, Blocked, Sampled, Written};
 use chip::Chip;
 
 #[derive(Clone, Copy)]
-pub struct After {
+pub struct After<'w> {
     pub chip: Chip,
-    pub said: Said,
+    pub said: Said<'w>,
 }
 
-pub fn kept(chip: Chip, said: Said) -> After {
-    After { chip, said }
+impl From<Answered> for After<'_> {
+    fn from(after: Answered) -> Self {
+        let said = Said {
+            no: after.no,
+            rest: Rest::Nothing,
+        };
+        After {
+            chip: after.chip,
+            said,
+        }
+    }
 }
 
-pub fn answered(after: Answered) -> After {
-    kept(after.chip, said::told(after.no, Rest::Nothing))
+impl From<Written> for After<'_> {
+    fn from(after: Written) -> Self {
+        After {
+            chip: after.chip,
+            said: Said::from(after.answer),
+        }
+    }
 }
 
-pub fn written(after: Written) -> After {
-    kept(after.chip, said::wrote(after.answer))
+impl From<Applied> for After<'_> {
+    fn from(after: Applied) -> Self {
+        After {
+            chip: after.chip,
+            said: Said::from(after.answer),
+        }
+    }
 }
 
-pub fn applied(after: Applied) -> After {
-    kept(after.chip, said::counts(after.answer))
-}
+impl<'w> After<'w> {
+    // The word is put into the buffer. A refused one prints as a block of none.
+    pub fn sampled(after: Sampled, words: &'w mut [u16; 65537]) -> After<'w> {
+        let answer = after.answer;
+        let rest = if answer.no > 0 {
+            Rest::Words(0, 0, 0, &[])
+        } else {
+            words[0] = answer.word;
+            Rest::Words(answer.ticks, answer.changed, answer.restarted, &words[..1])
+        };
+        let said = Said {
+            no: answer.no,
+            rest,
+        };
+        After {
+            chip: after.chip,
+            said,
+        }
+    }
 
-pub fn sampled(after: Sampled) -> After {
-    kept(after.chip, said::sample(after.answer))
-}
-
-pub fn played(after: Blocked) -> After {
-    kept(after.chip, said::played(after.answer))
+    // The words stand at the buffer's start.
+    pub fn played(after: Blocked, words: &'w [u16; 65537]) -> After<'w> {
+        let answer = after.answer;
+        let words = words.get(..answer.words).unwrap_or(&[]);
+        let said = Said {
+            no: answer.no,
+            rest: Rest::Words(answer.ticks, answer.changed, answer.restarted, words),
+        };
+        After {
+            chip: after.chip,
+            said,
+        }
+    }
 }

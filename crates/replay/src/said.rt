@@ -1,167 +1,145 @@
 // What a call answers, as it is printed: its number, and what stands after it.
-use crate::block;
-use answers::{Byte, Bytes, Count, Counts, Cycle, Flag, Outputs, Played, Sample, Wrote};
+use crate::block::Words;
+use answers::{Byte, Bytes, Count, Counts, Cycle, Flag, Outputs, Wrote};
 use queue::Queue;
-use script_print::{put_form, put_hex_bytes};
-use script_state::of_float;
+use script_print::Bits;
+use std::fmt;
 
 #[derive(Clone, Copy)]
-pub struct Said {
+pub struct Said<'w> {
     pub no: u8,
-    pub rest: Rest,
-    // where the rest is bytes
-    pub bytes: [u8; 16],
+    pub rest: Rest<'w>,
 }
 
 #[derive(Clone, Copy)]
-pub enum Rest {
+pub enum Rest<'w> {
     Nothing,
-    One(u64),
-    Two(u64, u64),
-    Three(u64, u64, u64),
-    // the bits of three f32
-    Floats(u64, u64, u64),
-    Bytes,
-    // words and ticks, how many writes changed a byte and how many restarted the envelope; the words stand in a buffer
-    Words(u64, u64, u64, u64),
-    // the same of one word, and it
-    Word(u64, u64, u64, u64),
-    None,
+    Number(u64),
+    Bytes([u8; 16]),
+    Floats(f32, f32, f32),
+    // how many writes changed a byte, and how many restarted the envelope
+    Changed(u32, u32),
+    // the ticks, the same of all that was due, and the words
+    Words(u64, u32, u32, &'w [u16]),
+    // a waiting write's stamp, register and value
+    Waiting(u64, u8, u8),
+    NoneWaits,
 }
 
-pub fn put_said(out: &mut [u8], at: usize, said: Said, words: &[u16]) -> usize {
-    let rest = said.rest;
-    let bytes = said.bytes;
-    let no = put_form(out, at, b"#", &[said.no as u64]);
-    let after = put_rest(out, no, rest, &bytes, words);
-    put_form(out, after, b"\n", &[])
-}
-
-fn put_rest(out: &mut [u8], at: usize, rest: Rest, bytes: &[u8; 16], words: &[u16]) -> usize {
-    match rest {
-        Rest::Nothing => at,
-        Rest::One(x) => put_form(out, at, b" #", &[x]),
-        Rest::Two(x, y) => put_form(out, at, b" # #", &[x, y]),
-        Rest::Three(x, y, z) => put_form(out, at, b" # # #", &[x, y, z]),
-        Rest::Floats(x, y, z) => put_form(out, at, b" % % %", &[x, y, z]),
-        Rest::Bytes => put_after_space(out, at, bytes),
-        Rest::Words(count, ticks, changed, restarted) => {
-            let counted = put_form(out, at, b" # # # #", &[count, ticks, changed, restarted]);
-            block::put_words(out, counted, count, words)
+impl fmt::Display for Said<'_> {
+    fn fmt<W: fmt::Write>(&self, f: &mut fmt::Formatter<W>) -> fmt::Result {
+        let no = self.no;
+        write!(f, "{no}")?;
+        match self.rest {
+            Rest::Nothing => Ok(()),
+            Rest::Number(n) => write!(f, " {n}"),
+            Rest::Bytes(bytes) => write_bytes(f, &bytes),
+            Rest::Floats(a, b, c) => {
+                let a = Bits(a);
+                let b = Bits(b);
+                let c = Bits(c);
+                write!(f, " {a} {b} {c}")
+            }
+            Rest::Changed(changed, restarted) => write!(f, " {changed} {restarted}"),
+            Rest::Words(ticks, changed, restarted, words) => {
+                let count = words.len();
+                let words = Words(words);
+                write!(f, " {count} {ticks} {changed} {restarted}{words}")
+            }
+            Rest::Waiting(stamp, register, value) => write!(f, " {stamp} {register} {value}"),
+            Rest::NoneWaits => f.write_str(" none"),
         }
-        Rest::Word(ticks, changed, restarted, word) => put_form(
-            out,
-            at,
-            b" 1 # # # #",
-            &[ticks, changed, restarted, word],
-        ),
-        Rest::None => put_form(out, at, b" none", &[]),
     }
 }
 
-fn put_after_space(out: &mut [u8], at: usize, bytes: &[u8; 16]) -> usize {
-    let space = put_form(out, at, b" ", &[]);
-    put_hex_bytes(out, space, bytes)
+fn write_bytes<W: fmt::Write>(f: &mut fmt::Formatter<W>, bytes: &[u8; 16]) -> fmt::Result {
+    let shown = script_print::Bytes(bytes);
+    write!(f, " {shown}")
 }
 
-pub fn told(no: u8, rest: Rest) -> Said {
-    Said {
-        no,
-        rest,
-        bytes: [0; 16],
+impl From<Byte> for Said<'_> {
+    fn from(answer: Byte) -> Self {
+        Said {
+            no: answer.no,
+            rest: Rest::Number(u64::from(answer.value)),
+        }
     }
 }
 
-pub fn byte(answer: Byte) -> Said {
-    told(answer.no, Rest::One(answer.value as u64))
-}
-
-pub fn bytes(answer: Bytes) -> Said {
-    let bytes = answer.bytes;
-    Said {
-        no: answer.no,
-        rest: Rest::Bytes,
-        bytes,
+impl From<Bytes> for Said<'_> {
+    fn from(answer: Bytes) -> Self {
+        Said {
+            no: answer.no,
+            rest: Rest::Bytes(answer.bytes),
+        }
     }
 }
 
-pub fn cycle(answer: Cycle) -> Said {
-    told(answer.no, Rest::One(answer.cycle))
-}
-
-pub fn count(answer: Count) -> Said {
-    told(answer.no, Rest::One(answer.count as u64))
-}
-
-pub fn flag(answer: Flag) -> Said {
-    told(answer.no, Rest::One(answer.yes as u64))
-}
-
-pub fn outputs(answer: Outputs) -> Said {
-    told(
-        answer.no,
-        Rest::Floats(of_float(answer.a), of_float(answer.b), of_float(answer.c)),
-    )
-}
-
-pub fn wrote(answer: Wrote) -> Said {
-    told(
-        answer.no,
-        Rest::Two(answer.changed as u64, answer.restarted as u64),
-    )
-}
-
-pub fn counts(answer: Counts) -> Said {
-    told(
-        answer.no,
-        Rest::Two(answer.changed as u64, answer.restarted as u64),
-    )
-}
-
-pub fn played(answer: Played) -> Said {
-    told(
-        answer.no,
-        Rest::Words(
-            answer.words as u64,
-            answer.ticks,
-            answer.changed as u64,
-            answer.restarted as u64,
-        ),
-    )
-}
-
-// A refused word prints as a block of none.
-pub fn sample(answer: Sample) -> Said {
-    if answer.no > 0 {
-        return told(answer.no, Rest::Words(0, 0, 0, 0));
+impl From<Cycle> for Said<'_> {
+    fn from(answer: Cycle) -> Self {
+        Said {
+            no: answer.no,
+            rest: Rest::Number(answer.cycle),
+        }
     }
-    told(
-        0,
-        Rest::Word(
-            answer.ticks,
-            answer.changed as u64,
-            answer.restarted as u64,
-            answer.word as u64,
-        ),
-    )
+}
+
+impl From<Count> for Said<'_> {
+    fn from(answer: Count) -> Self {
+        Said {
+            no: answer.no,
+            rest: Rest::Number(answer.count as u64),
+        }
+    }
+}
+
+impl From<Flag> for Said<'_> {
+    fn from(answer: Flag) -> Self {
+        Said {
+            no: answer.no,
+            rest: Rest::Number(answer.yes as u64),
+        }
+    }
+}
+
+impl From<Outputs> for Said<'_> {
+    fn from(answer: Outputs) -> Self {
+        Said {
+            no: answer.no,
+            rest: Rest::Floats(answer.a, answer.b, answer.c),
+        }
+    }
+}
+
+impl From<Wrote> for Said<'_> {
+    fn from(answer: Wrote) -> Self {
+        Said {
+            no: answer.no,
+            rest: Rest::Changed(answer.changed as u32, answer.restarted as u32),
+        }
+    }
+}
+
+impl From<Counts> for Said<'_> {
+    fn from(answer: Counts) -> Self {
+        Said {
+            no: answer.no,
+            rest: Rest::Changed(answer.changed, answer.restarted),
+        }
+    }
 }
 
 // No call: a look at the record's ring.
-pub fn waiting(queue: Queue, place: usize) -> Said {
-    if place >= queue.count {
-        return told(0, Rest::None);
-    }
-    let slot = (queue.head % 256 + place % 256) % 256;
-    told(
-        0,
-        Rest::Three(
+pub fn waiting<'w>(queue: &Queue, place: usize) -> Said<'w> {
+    let rest = if place < queue.count {
+        let slot = (queue.head % 256 + place % 256) % 256;
+        Rest::Waiting(
             queue.stamps[slot],
-            wide(queue.registers[slot]),
-            wide(queue.values[slot]),
-        ),
-    )
-}
-
-fn wide(byte: u8) -> u64 {
-    byte as u64
+            queue.registers[slot],
+            queue.values[slot],
+        )
+    } else {
+        Rest::NoneWaits
+    };
+    Said { no: 0, rest }
 }

@@ -2,12 +2,17 @@
 #![tactic(auto)]
 
 mod lines;
-mod narrow;
 mod settings;
 
-pub use lines::call_of;
-pub use narrow::sixteen;
+pub use lines::line_of;
 pub use settings::Setting;
+
+#[derive(Clone, Copy)]
+pub enum Line {
+    // passed over
+    Comment,
+    Call(Call),
+}
 
 #[derive(Clone, Copy)]
 pub enum Call {
@@ -19,13 +24,9 @@ pub enum Call {
     Look(Look),
     Word,
     Block(usize),
-    Waiting(usize),
+    Waiting(u8),
     Lent(bool),
     Set(Setting),
-    // passed over
-    Comment,
-    // a line of another form
-    Bad,
 }
 
 // A call that answers its number alone.
@@ -39,8 +40,7 @@ pub enum Change {
     InsideIrq(bool),
     Trigger,
     Mute(usize, bool),
-    DrumOff(usize),
-    Drum(usize, f32),
+    Drum(usize, Option<f32>),
 }
 
 // A call that applies register writes, and answers what they changed.
@@ -48,8 +48,7 @@ pub enum Change {
 pub enum Apply {
     Write(u8, u8),
     PortNow(u8, u8),
-    // sixteen bytes as two numbers, the first byte the highest
-    Load(u64, u64),
+    Load([u8; 16]),
     Flush,
 }
 

@@ -1,229 +1,96 @@
-// Which call a line is, by the number of its words and the first of them.
-use crate::settings::{Setting, setting_of};
-use crate::{Apply, Call, Change, Look, narrow};
-use script_words::{NOWHERE, Number, decimal, hex, place_of, seek};
-
-const FLAG: u64 = 1;
-
-const BYTE: u64 = 0xff;
-
-const CLOCK: u64 = 0xffff_ffff;
-
-const WHOLE: u64 = 0xffff_ffff_ffff_ffff;
+// Which call a line is, by its words.
+use crate::settings::setting_of;
+use crate::{Apply, Call, Change, Line, Look};
+use script_words::{decimal, float, hex};
+use std::str;
 
 // one word more than a call answers, so that a script can ask for too many
-const WORDS: u64 = 65_537;
+const WORDS: usize = 65_537;
 
-// One space separates the words.
-pub fn call_of(line: &[u8]) -> Call {
-    if is_comment(line) {
-        return Call::Comment;
+// One space separates the words; none where the line has another form.
+pub fn line_of(line: &[u8]) -> Option<Line> {
+    if line.starts_with(b"#") {
+        return Some(Line::Comment);
     }
-    let first = seek(line, 0, b' ');
-    let name = &line[0..first];
-    if first >= line.len() {
-        return alone(name);
-    }
-    let second = seek(line, first + 1, b' ');
-    let x = &line[first + 1..second];
-    if second >= line.len() {
-        return with_one(name, x);
-    }
-    let third = seek(line, second + 1, b' ');
-    let y = &line[second + 1..third];
-    if third >= line.len() {
-        return with_two(name, x, y);
-    }
-    let fourth = seek(line, third + 1, b' ');
-    if fourth < line.len() {
-        return Call::Bad;
-    }
-    with_three(name, x, y, &line[third + 1..fourth])
+    call_of(str::from_utf8(line).ok()?).map(Line::Call)
 }
 
-fn is_comment(line: &[u8]) -> bool {
-    if line.len() == 0 {
-        return false;
-    }
-    line[0] == b'#'
-}
-
-fn alone(name: &[u8]) -> Call {
-    match place_of(
-        b"default reset dump get_cycle flush pending trigger outputs word",
-        name,
-    ) {
-        0 => Call::Default,
-        1 => Call::Change(Change::Reset),
-        2 => Call::Look(Look::Registers),
-        3 => Call::Look(Look::Cycle),
-        4 => Call::Apply(Apply::Flush),
-        5 => Call::Look(Look::Pending),
-        6 => Call::Change(Change::Trigger),
-        7 => Call::Look(Look::Outputs),
-        8 => Call::Word,
-        _ => Call::Bad,
+fn call_of(line: &str) -> Option<Call> {
+    let mut words = line.split(' ');
+    let name = words.next()?;
+    match (words.next(), words.next(), words.next(), words.next()) {
+        (None, _, _, _) => alone(name),
+        (Some(x), None, _, _) => with_one(name, x),
+        (Some(x), Some(y), None, _) => with_two(name, x, y),
+        (Some(x), Some(y), Some(z), None) => with_three(name, x, y, z),
+        _ => None,
     }
 }
 
-fn with_one(name: &[u8], x: &[u8]) -> Call {
-    match place_of(b"load block", name) {
-        0 => load(x),
-        1 => block(x),
-        _ => with_byte(name, x),
+fn alone(name: &str) -> Option<Call> {
+    match name {
+        "default" => Some(Call::Default),
+        "reset" => Some(Call::Change(Change::Reset)),
+        "dump" => Some(Call::Look(Look::Registers)),
+        "get_cycle" => Some(Call::Look(Look::Cycle)),
+        "flush" => Some(Call::Apply(Apply::Flush)),
+        "pending" => Some(Call::Look(Look::Pending)),
+        "trigger" => Some(Call::Change(Change::Trigger)),
+        "outputs" => Some(Call::Look(Look::Outputs)),
+        "word" => Some(Call::Word),
+        _ => None,
     }
 }
 
-// Thirty-two hex digits.
-fn load(x: &[u8]) -> Call {
-    if x.len() != 32 {
-        return Call::Bad;
-    }
-    let Number::Is(first) = hex(&x[0..16], 16) else {
-        return Call::Bad;
-    };
-    let Number::Is(last) = hex(&x[16..32], 16) else {
-        return Call::Bad;
-    };
-    Call::Apply(Apply::Load(first, last))
-}
-
-fn block(x: &[u8]) -> Call {
-    let Number::Is(count) = decimal(x, WORDS) else {
-        return Call::Bad;
-    };
-    Call::Block(count as usize)
-}
-
-fn with_byte(name: &[u8], x: &[u8]) -> Call {
-    let place = place_of(b"read read_port waiting", name);
-    if place == NOWHERE {
-        return with_flag(name, x);
-    }
-    let Number::Is(n) = decimal(x, BYTE) else {
-        return Call::Bad;
-    };
-    match place {
-        0 => Call::Look(Look::Register(narrow::byte(n))),
-        1 => Call::Look(Look::Port(narrow::byte(n))),
-        _ => Call::Waiting(n as usize),
+fn with_one(name: &str, x: &str) -> Option<Call> {
+    match name {
+        "load" => Some(Call::Apply(Apply::Load(hex(x, 32)?.to_be_bytes()))),
+        "block" => decimal(x).filter(|count| *count <= WORDS).map(Call::Block),
+        "read" => decimal(x).map(|register| Call::Look(Look::Register(register))),
+        "read_port" => decimal(x).map(|port| Call::Look(Look::Port(port))),
+        "waiting" => decimal(x).map(Call::Waiting),
+        "irq" => flag(x).map(|on| Call::Change(Change::Irq(on))),
+        "inside_irq" => flag(x).map(|inside| Call::Change(Change::InsideIrq(inside))),
+        "lent" => flag(x).map(Call::Lent),
+        "cycle" => decimal(x).map(|cycle| Call::Change(Change::Cycle(cycle))),
+        "sync" => decimal(x).map(|cycle| Call::Change(Change::Sync(cycle))),
+        "muted" => decimal(x).map(|channel| Call::Look(Look::Muted(channel))),
+        _ => None,
     }
 }
 
-fn with_flag(name: &[u8], x: &[u8]) -> Call {
-    let place = place_of(b"irq inside_irq lent", name);
-    if place == NOWHERE {
-        return with_number(name, x);
-    }
-    let Number::Is(n) = decimal(x, FLAG) else {
-        return Call::Bad;
-    };
-    match place {
-        0 => Call::Change(Change::Irq(n > 0)),
-        1 => Call::Change(Change::InsideIrq(n > 0)),
-        _ => Call::Lent(n > 0),
+fn flag(word: &str) -> Option<bool> {
+    match word {
+        "0" => Some(false),
+        "1" => Some(true),
+        _ => None,
     }
 }
 
-fn with_number(name: &[u8], x: &[u8]) -> Call {
-    let Number::Is(n) = decimal(x, WHOLE) else {
-        return Call::Bad;
-    };
-    match place_of(b"cycle sync muted", name) {
-        0 => Call::Change(Change::Cycle(n)),
-        1 => Call::Change(Change::Sync(n)),
-        2 => Call::Look(Look::Muted(n as usize)),
-        _ => Call::Bad,
+fn with_two(name: &str, x: &str, y: &str) -> Option<Call> {
+    match name {
+        "new" => Some(Call::New(decimal(x)?, decimal(y)?)),
+        "mute" => Some(Call::Change(Change::Mute(decimal(x)?, flag(y)?))),
+        "drum" => Some(Call::Change(Change::Drum(decimal(x)?, drum(y)?))),
+        "set" => setting_of(x, y).map(Call::Set),
+        "write" => Some(Call::Apply(Apply::Write(decimal(x)?, decimal(y)?))),
+        "port" => Some(Call::Change(Change::Port(decimal(x)?, decimal(y)?))),
+        "port_now" => Some(Call::Apply(Apply::PortNow(decimal(x)?, decimal(y)?))),
+        _ => None,
     }
-}
-
-fn with_two(name: &[u8], x: &[u8], y: &[u8]) -> Call {
-    match place_of(b"new mute drum set", name) {
-        0 => new(x, y),
-        1 => mute(x, y),
-        2 => drum(x, y),
-        3 => set(x, y),
-        _ => with_bytes(name, x, y),
-    }
-}
-
-fn new(x: &[u8], y: &[u8]) -> Call {
-    let Number::Is(master) = decimal(x, CLOCK) else {
-        return Call::Bad;
-    };
-    let Number::Is(rate) = decimal(y, CLOCK) else {
-        return Call::Bad;
-    };
-    Call::New(narrow::word(master), narrow::word(rate))
-}
-
-fn mute(x: &[u8], y: &[u8]) -> Call {
-    let Number::Is(channel) = decimal(x, WHOLE) else {
-        return Call::Bad;
-    };
-    let Number::Is(muted) = decimal(y, FLAG) else {
-        return Call::Bad;
-    };
-    Call::Change(Change::Mute(channel as usize, muted > 0))
 }
 
 // `off`, or the eight hex digits of an f32.
-fn drum(x: &[u8], y: &[u8]) -> Call {
-    let Number::Is(channel) = decimal(x, WHOLE) else {
-        return Call::Bad;
-    };
-    if check::same(y, b"off") {
-        return Call::Change(Change::DrumOff(channel as usize));
+fn drum(word: &str) -> Option<Option<f32>> {
+    if word == "off" {
+        return Some(None);
     }
-    let Number::Is(bits) = hex(y, 8) else {
-        return Call::Bad;
-    };
-    Call::Change(Change::Drum(channel as usize, narrow::float(narrow::word(bits))))
+    Some(Some(float(u32::try_from(hex(word, 8)?).ok()?)))
 }
 
-fn set(x: &[u8], y: &[u8]) -> Call {
-    let setting = setting_of(x, y);
-    if let Setting::Bad = setting {
-        return Call::Bad;
+fn with_three(name: &str, x: &str, y: &str, z: &str) -> Option<Call> {
+    match name {
+        "make" => Some(Call::Make(decimal(x)?, decimal(y)?, decimal(z)?)),
+        _ => None,
     }
-    Call::Set(setting)
-}
-
-fn with_bytes(name: &[u8], x: &[u8], y: &[u8]) -> Call {
-    let Number::Is(first) = decimal(x, BYTE) else {
-        return Call::Bad;
-    };
-    let Number::Is(value) = decimal(y, BYTE) else {
-        return Call::Bad;
-    };
-    match place_of(b"write port port_now", name) {
-        0 => Call::Apply(Apply::Write(narrow::byte(first), narrow::byte(value))),
-        1 => Call::Change(Change::Port(narrow::byte(first), narrow::byte(value))),
-        2 => Call::Apply(Apply::PortNow(narrow::byte(first), narrow::byte(value))),
-        _ => Call::Bad,
-    }
-}
-
-fn with_three(name: &[u8], x: &[u8], y: &[u8], z: &[u8]) -> Call {
-    if check::same(name, b"make") {
-        return make(x, y, z);
-    }
-    Call::Bad
-}
-
-fn make(x: &[u8], y: &[u8], z: &[u8]) -> Call {
-    let Number::Is(master) = decimal(x, CLOCK) else {
-        return Call::Bad;
-    };
-    let Number::Is(rate) = decimal(y, CLOCK) else {
-        return Call::Bad;
-    };
-    let Number::Is(variant) = decimal(z, BYTE) else {
-        return Call::Bad;
-    };
-    Call::Make(
-        narrow::word(master),
-        narrow::word(rate),
-        narrow::byte(variant),
-    )
 }

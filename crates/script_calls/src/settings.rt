@@ -1,8 +1,7 @@
 // What `set` sets: one field of the record, and its new value.
-use crate::narrow;
-use script_words::{NOWHERE, Number, decimal, place_of};
+use script_words::decimal;
 
-// A tone's channel is 0, 1 or 2.
+// A tone's channel is 0, 1 or 2, a register 0 to 13.
 #[derive(Clone, Copy)]
 pub enum Setting {
     Master(u32),
@@ -31,137 +30,59 @@ pub enum Setting {
     Head(usize),
     Count(usize),
     WaitingRegister(u8),
-    // no field, or a value that it cannot hold
-    Bad,
 }
 
-const BYTE: u64 = 0xff;
-
-const HALF: u64 = 0xffff;
-
-const WORD: u64 = 0xffff_ffff;
-
-const WHOLE: u64 = 0xffff_ffff_ffff_ffff;
-
-// The fields by their types.
-pub fn setting_of(field: &[u8], value: &[u8]) -> Setting {
-    let place = place_of(
-        b"master rate internal accumulator A_edges B_edges C_edges noise_register noise_output gates_tone gates_noise",
-        field,
-    );
-    if place == NOWHERE {
-        return of_half(field, value);
-    }
-    let Number::Is(n) = decimal(value, WORD) else {
-        return Setting::Bad;
-    };
-    word(place, narrow::word(n))
-}
-
-fn word(place: usize, n: u32) -> Setting {
-    match place {
-        0 => Setting::Master(n),
-        1 => Setting::Rate(n),
-        2 => Setting::Internal(n),
-        3 => Setting::Accumulator(n),
-        4 => Setting::Edges(0, n),
-        5 => Setting::Edges(1, n),
-        6 => Setting::Edges(2, n),
-        7 => Setting::NoiseRegister(n),
-        8 => Setting::NoiseOutput(n),
-        9 => Setting::GatesTone(n),
-        _ => Setting::GatesNoise(n),
+// None where there is no such field, or where it cannot hold the value.
+pub fn setting_of(field: &str, value: &str) -> Option<Setting> {
+    match field {
+        "master" => decimal(value).map(Setting::Master),
+        "rate" => decimal(value).map(Setting::Rate),
+        "internal" => decimal(value).map(Setting::Internal),
+        "cycles" => decimal(value).map(Setting::Cycles),
+        "variant" => decimal(value).map(Setting::Variant),
+        "accumulator" => decimal(value).map(Setting::Accumulator),
+        "stamp" => decimal(value).map(Setting::Stamp),
+        "start" => decimal(value).map(Setting::Start),
+        "select" => decimal(value).map(Setting::Select),
+        "head" => decimal(value).map(Setting::Head),
+        "count" => decimal(value).map(Setting::Count),
+        "waiting_register" => decimal(value).map(Setting::WaitingRegister),
+        "gates_tone" => decimal(value).map(Setting::GatesTone),
+        "gates_noise" => decimal(value).map(Setting::GatesNoise),
+        _ => of_generators(field, value),
     }
 }
 
-fn of_half(field: &[u8], value: &[u8]) -> Setting {
-    let place = place_of(
-        b"A_counter B_counter C_counter A_period B_period C_period noise_counter envelope_counter envelope_period envelope_offset",
-        field,
-    );
-    if place == NOWHERE {
-        return of_byte(field, value);
-    }
-    let Number::Is(n) = decimal(value, HALF) else {
-        return Setting::Bad;
-    };
-    half(place, narrow::half(n))
-}
-
-fn half(place: usize, n: u16) -> Setting {
-    match place {
-        0..=2 => Setting::Counter(place, n),
-        3..=5 => Setting::Period(place - 3, n),
-        6 => Setting::NoiseCounter(n),
-        7 => Setting::EnvelopeCounter(n),
-        8 => Setting::EnvelopePeriod(n),
-        _ => Setting::EnvelopeOffset(n),
+fn of_generators(field: &str, value: &str) -> Option<Setting> {
+    match field {
+        "noise_counter" => decimal(value).map(Setting::NoiseCounter),
+        "noise_period" => decimal(value).map(Setting::NoisePeriod),
+        "noise_register" => decimal(value).map(Setting::NoiseRegister),
+        "noise_output" => decimal(value).map(Setting::NoiseOutput),
+        "envelope_counter" => decimal(value).map(Setting::EnvelopeCounter),
+        "envelope_period" => decimal(value).map(Setting::EnvelopePeriod),
+        "envelope_position" => decimal(value).map(Setting::EnvelopePosition),
+        "envelope_offset" => decimal(value).map(Setting::EnvelopeOffset),
+        _ => of_tone(field, value).or_else(|| of_register(field, value)),
     }
 }
 
-fn of_byte(field: &[u8], value: &[u8]) -> Setting {
-    let place = place_of(
-        b"R0 R1 R2 R3 R4 R5 R6 R7 R8 R9 R10 R11 R12 R13 variant select noise_period waiting_register",
-        field,
-    );
-    if place == NOWHERE {
-        return of_whole(field, value);
-    }
-    let Number::Is(n) = decimal(value, BYTE) else {
-        return Setting::Bad;
-    };
-    byte(place, narrow::byte(n))
-}
-
-fn byte(place: usize, n: u8) -> Setting {
-    match place {
-        0..=13 => Setting::Register(place, n),
-        14 => Setting::Variant(n),
-        15 => Setting::Select(n),
-        16 => Setting::NoisePeriod(n),
-        _ => Setting::WaitingRegister(n),
+fn of_tone(field: &str, value: &str) -> Option<Setting> {
+    let (channel, part) = field.split_once('_')?;
+    let channel = ["A", "B", "C"].iter().position(|name| *name == channel)?;
+    match part {
+        "counter" => Some(Setting::Counter(channel, decimal(value)?)),
+        "period" => Some(Setting::Period(channel, decimal(value)?)),
+        "edges" => Some(Setting::Edges(channel, decimal(value)?)),
+        _ => None,
     }
 }
 
-fn of_whole(field: &[u8], value: &[u8]) -> Setting {
-    let place = place_of(b"cycles stamp start head count", field);
-    if place == NOWHERE {
-        return of_position(field, value);
+// R0 to R13
+fn of_register(field: &str, value: &str) -> Option<Setting> {
+    let register = decimal(field.strip_prefix('R')?)?;
+    if register > 13 {
+        return None;
     }
-    let Number::Is(n) = decimal(value, WHOLE) else {
-        return Setting::Bad;
-    };
-    match place {
-        0 => Setting::Cycles(n),
-        1 => Setting::Stamp(n),
-        2 => Setting::Start(n),
-        3 => Setting::Head(n as usize),
-        _ => Setting::Count(n as usize),
-    }
-}
-
-// The only field that may be below 0.
-fn of_position(field: &[u8], value: &[u8]) -> Setting {
-    if !check::same(field, b"envelope_position") {
-        return Setting::Bad;
-    }
-    if value.len() > 1 {
-        if value[0] == b'-' {
-            return below_zero(&value[1..]);
-        }
-    }
-    let Number::Is(n) = decimal(value, 0x7fff_ffff) else {
-        return Setting::Bad;
-    };
-    Setting::EnvelopePosition(narrow::signed(narrow::word(0x8000_0000 + n % 0x8000_0000)))
-}
-
-fn below_zero(digits: &[u8]) -> Setting {
-    let Number::Is(n) = decimal(digits, 0x8000_0000) else {
-        return Setting::Bad;
-    };
-    if n == 0 {
-        return Setting::Bad;
-    }
-    Setting::EnvelopePosition(narrow::signed(narrow::word(0x8000_0000 - n % 0x8000_0001)))
+    Some(Setting::Register(register, decimal(value)?))
 }

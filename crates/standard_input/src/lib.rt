@@ -37,6 +37,7 @@ pub fn read_into<R: io::Read>(input: &mut R, room: &mut [u8]) -> Read
 {
     let mut bytes = 0;
     let mut failed = None;
+    // By hand: std's reads of a whole input say little of what stands in the room once one has failed.
     while bytes < room.len() {
         match input.read(&mut room[bytes..]) {
             Ok(0) => break,

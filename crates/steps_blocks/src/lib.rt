@@ -41,9 +41,8 @@ pub fn block<'t, 'o>(
         return unrendered(core, head, count, refusals::OUT_OF_RANGE);
     }
     let words = out.len();
-    let no = block_limits::block_no(core.start, core.clocks.cycles, words);
-    if no != refusals::ACCEPTED {
-        return unrendered(core, head, count, no);
+    if let Err(why) = block_limits::accept_block(core.start, core.clocks.cycles, words) {
+        return unrendered(core, head, count, why.number());
     }
     let voice = core.voice;
     let bytes = voice.registers;

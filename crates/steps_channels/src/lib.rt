@@ -3,70 +3,72 @@
 #![tactic(auto)]
 
 ghost use Rattle.std.specs.Prelude.{◌≡◌};
-ghost use Rattle.steps_channels.specs.ChannelSteps.{channel_number, drums_set, mutes_set, mute_said, outputs_said};
+ghost use Rattle.steps_channels.specs.ChannelSteps.{at_channel, channel_number, drums_set, mutes_set, mute_said, one_set, outputs_said, put_one};
 
 use answers::{Flag, Outputs};
 use channel::Drum;
 
-// The three mutes to store, and the call's number.
+// A value for each channel.
 #[derive(Clone, Copy)]
-pub struct Muted {
-    pub a: bool,
-    pub b: bool,
-    pub c: bool,
+pub struct Three<T> {
+    pub a: T,
+    pub b: T,
+    pub c: T,
+}
+
+// The three values to store, and the call's number.
+#[derive(Clone, Copy)]
+pub struct ThreeSet<T> {
+    pub values: Three<T>,
     pub no: u8,
 }
 
-// The three drums to store, and the call's number.
-#[derive(Clone, Copy)]
-pub struct Drummed {
-    pub a: Drum,
-    pub b: Drum,
-    pub c: Drum,
-    pub no: u8,
+impl<T: Copy> Three<T> {
+    // Channel 0 is A, 1 is B; every other number stands for C.
+    #[tactic(auto, unfolding(crate::specs::ChannelSteps::put_one))]
+    fn put(self, channel: usize, value: T) -> Three<T>
+        ensures { result ≡ put_one channel value self }
+    {
+        let Three { a, b, c } = self;
+        match channel {
+            0 => Three { a: value, b, c },
+            1 => Three { a, b: value, c },
+            _ => Three { a, b, c: value },
+        }
+    }
+
+    #[tactic(auto, unfolding(crate::specs::ChannelSteps::at_channel))]
+    fn at(self, channel: usize) -> T
+        ensures { result ≡ at_channel channel self }
+    {
+        match channel {
+            0 => self.a,
+            1 => self.b,
+            _ => self.c,
+        }
+    }
 }
 
-pub fn set_channel_mute(ok: bool, a: bool, b: bool, c: bool, channel: usize, muted: bool) -> Muted
-    ensures { result ≡ mutes_set ok a b c channel muted }
+pub fn set_channel_mute(ok: bool, mutes: Three<bool>, channel: usize, muted: bool) -> ThreeSet<bool>
+    ensures { result ≡ mutes_set ok mutes channel muted }
 {
-    let no = channel_number(ok, channel);
-    if no != refusals::ACCEPTED {
-        return Muted { a, b, c, no };
-    }
-    if channel == 0 {
-        return Muted { a: muted, b, c, no };
-    }
-    if channel == 1 {
-        return Muted { a, b: muted, c, no };
-    }
-    Muted { a, b, c: muted, no }
+    one_set(ok, mutes, channel, muted)
 }
 
 pub fn set_drum_sample_override(
     ok: bool,
-    a: Drum,
-    b: Drum,
-    c: Drum,
+    drums: Three<Drum>,
     channel: usize,
     drum: Drum,
-) -> Drummed
-    ensures { result ≡ drums_set ok a b c channel drum }
+) -> ThreeSet<Drum>
+    ensures { result ≡ drums_set ok drums channel drum }
 {
-    let no = channel_number(ok, channel);
-    if no != refusals::ACCEPTED {
-        return Drummed { a, b, c, no };
-    }
-    if channel == 0 {
-        return Drummed { a: drum, b, c, no };
-    }
-    if channel == 1 {
-        return Drummed { a, b: drum, c, no };
-    }
-    Drummed { a, b, c: drum, no }
+    one_set(ok, drums, channel, drum)
 }
 
-pub fn is_channel_muted(ok: bool, a: bool, b: bool, c: bool, channel: usize) -> Flag
-    ensures { result ≡ mute_said ok a b c channel }
+#[tactic(auto, unfolding(crate::specs::ChannelSteps::mute_said))]
+pub fn is_channel_muted(ok: bool, mutes: Three<bool>, channel: usize) -> Flag
+    ensures { result ≡ mute_said ok mutes channel }
 {
     if !ok {
         return Flag {
@@ -74,32 +76,15 @@ pub fn is_channel_muted(ok: bool, a: bool, b: bool, c: bool, channel: usize) -> 
             yes: false,
         };
     }
-    if channel >= 3 {
-        return Flag {
-            no: refusals::ACCEPTED,
-            yes: false,
-        };
-    }
-    if channel == 0 {
-        return Flag {
-            no: refusals::ACCEPTED,
-            yes: a,
-        };
-    }
-    if channel == 1 {
-        return Flag {
-            no: refusals::ACCEPTED,
-            yes: b,
-        };
-    }
     Flag {
         no: refusals::ACCEPTED,
-        yes: c,
+        yes: channel < 3 && mutes.at(channel),
     }
 }
 
-pub fn get_channel_outputs(ok: bool, a: f32, b: f32, c: f32) -> Outputs
-    ensures { result ≡ outputs_said ok a b c }
+#[tactic(auto, unfolding(crate::specs::ChannelSteps::outputs_said))]
+pub fn get_channel_outputs(ok: bool, outputs: Three<f32>) -> Outputs
+    ensures { result ≡ outputs_said ok outputs }
 {
     if !ok {
         return Outputs {
@@ -111,13 +96,29 @@ pub fn get_channel_outputs(ok: bool, a: f32, b: f32, c: f32) -> Outputs
     }
     Outputs {
         no: refusals::ACCEPTED,
-        a,
-        b,
-        c,
+        a: outputs.a,
+        b: outputs.b,
+        c: outputs.c,
+    }
+}
+
+// A refused call sets none.
+#[tactic(auto, unfolding(crate::specs::ChannelSteps::one_set))]
+fn one_set<T: Copy>(ok: bool, held: Three<T>, channel: usize, value: T) -> ThreeSet<T>
+    ensures { result ≡ one_set ok held channel value }
+{
+    let no = channel_number(ok, channel);
+    if no != refusals::ACCEPTED {
+        return ThreeSet { values: held, no };
+    }
+    ThreeSet {
+        values: held.put(channel, value),
+        no,
     }
 }
 
 // Mute or drum for channel 3 or above: 7, after 22.
+#[tactic(auto, unfolding(crate::specs::ChannelSteps::channel_number))]
 fn channel_number(ok: bool, channel: usize) -> u8
     ensures { result ≡ channel_number ok channel }
 {

@@ -21,6 +21,7 @@ pub struct Synced {
     pub no: u8,
 }
 
+#[tactic(auto, unfolding(crate::specs::CycleSteps::stamp_set))]
 pub fn set_cpu_cycle(ok: bool, stamp: u64, cycle: u64) -> Stamped
     ensures { result ≡ stamp_set ok stamp cycle }
 {
@@ -36,6 +37,7 @@ pub fn set_cpu_cycle(ok: bool, stamp: u64, cycle: u64) -> Stamped
     }
 }
 
+#[tactic(auto, unfolding(crate::specs::CycleSteps::both_set))]
 pub fn sync_sample_cycle(ok: bool, stamp: u64, start: u64, cycle: u64) -> Synced
     ensures { result ≡ both_set ok stamp start cycle }
 {
@@ -53,6 +55,7 @@ pub fn sync_sample_cycle(ok: bool, stamp: u64, start: u64, cycle: u64) -> Synced
     }
 }
 
+#[tactic(auto, unfolding(crate::specs::CycleSteps::cycle_said))]
 pub fn cpu_cycle(ok: bool, stamp: u64) -> Cycle
     ensures { result ≡ cycle_said ok stamp }
 {
@@ -68,6 +71,7 @@ pub fn cpu_cycle(ok: bool, stamp: u64) -> Cycle
     }
 }
 
+#[tactic(auto, unfolding(crate::specs::CycleSteps::count_said))]
 pub fn pending_write_count(ok: bool, count: usize) -> Count
     ensures { result ≡ count_said ok count }
 {

@@ -24,6 +24,7 @@ pub struct Flagged {
 }
 
 // The same shape, from -64 again.
+#[tactic(auto, unfolding(crate::specs::EffectSteps::trigger_set))]
 pub fn trigger_envelope(ok: bool, envelope: Envelope) -> Triggered
     ensures { result ≡ trigger_set ok envelope }
 {
@@ -41,6 +42,7 @@ pub fn trigger_envelope(ok: bool, envelope: Envelope) -> Triggered
 }
 
 // Setting the flag off releases the pending flips.
+#[tactic(auto, unfolding(crate::specs::EffectSteps::flag_set))]
 pub fn set_timer_irq_state(ok: bool, generators: Generators, irq: bool, on: bool) -> Flagged
     ensures { result ≡ flag_set ok generators irq on }
 {

@@ -6,6 +6,7 @@ ghost use Rattle.steps_registers.specs.RegisterSteps.{bit1_clear, dump_said, pad
 
 use answers::{Byte, Bytes};
 
+#[tactic(auto, unfolding(crate::specs::RegisterSteps::register_said))]
 pub fn read_register(ok: bool, bytes: [u8; 14], register: u8) -> Byte
     ensures { result ≡ register_said ok bytes register }
 {
@@ -28,6 +29,7 @@ pub fn read_register(ok: bool, bytes: [u8; 14], register: u8) -> Byte
     }
 }
 
+#[tactic(auto, unfolding(crate::specs::RegisterSteps::dump_said))]
 pub fn dump_registers(ok: bool, bytes: [u8; 14]) -> Bytes
     ensures { result ≡ dump_said ok bytes }
 {
@@ -44,6 +46,7 @@ pub fn dump_registers(ok: bool, bytes: [u8; 14]) -> Bytes
     }
 }
 
+#[tactic(auto, unfolding(crate::specs::RegisterSteps::port_said))]
 pub fn read_port(ok: bool, bytes: [u8; 14], selected: u8, port: u8) -> Byte
     ensures { result ≡ port_said ok bytes selected port }
 {
@@ -76,6 +79,7 @@ pub fn bit_1_clear(port: u8) -> bool
 }
 
 // The fourteen bytes, and two zeros.
+#[tactic(auto, unfolding(crate::specs::RegisterSteps::padded))]
 fn padded(r: [u8; 14]) -> [u8; 16]
     ensures { result ≡ padded r }
 {

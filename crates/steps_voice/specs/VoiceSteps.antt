@@ -5,15 +5,15 @@ use Rattle.registers.specs.declared.Voice.{Voice}
 use Rattle.registers.specs.Registers.{apply_register}
 use Rattle.registers.specs.Writes.{load_writes, loaded}
 use Rattle.write_effects.specs.Effects.{changed_by, changes_in, restarted_by, restarts_in}
+use Rattle.answers.specs.declared.Counts.{Counts}
 use Rattle.answers.specs.declared.Wrote.{Wrote}
 use Rattle.answers.specs.Reports.{counts, wrote}
 use Rattle.steps_registers.specs.RegisterSteps.{bit1_clear}
-use Rattle.steps_voice.specs.declared.Loaded.{Loaded}
 use Rattle.steps_voice.specs.declared.PortWritten.{PortWritten}
 use Rattle.steps_voice.specs.declared.Voiced.{Voiced}
 
 -- The voice after the write, and what the write changed; a record out of range keeps its voice.
-unfoldable pub voiced : Bool → ℕ → ℕ → Voice → Voiced
+unfoldable pub voiced : Bool → ℕ → ℕ → Voice → Voiced Wrote
 voiced ok register value voice =
     cond ok
     (record {
@@ -23,7 +23,7 @@ voiced ok register value voice =
     (record { voice = voice; answer = wrote out_of_range false false })
 
 -- The voice with bytes 0 to 13 written in order, and the counts over those fourteen writes.
-unfoldable pub voiced_all : Bool → List ℕ → Voice → Loaded
+unfoldable pub voiced_all : Bool → List ℕ → Voice → Voiced Counts
 voiced_all ok bytes voice =
     cond ok
     (record {

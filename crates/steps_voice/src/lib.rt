@@ -14,15 +14,9 @@ use registers::Voice;
 
 // The voice to store, and the call's answer.
 #[derive(Clone, Copy)]
-pub struct Voiced {
+pub struct Voiced<A> {
     pub voice: Voice,
-    pub answer: Wrote,
-}
-
-#[derive(Clone, Copy)]
-pub struct Loaded {
-    pub voice: Voice,
-    pub answer: Counts,
+    pub answer: A,
 }
 
 // The voice and the selection to store, and the call's answer.
@@ -33,7 +27,7 @@ pub struct PortWritten {
     pub answer: Wrote,
 }
 
-pub fn write_register(ok: bool, voice: Voice, register: u8, value: u8) -> Voiced
+pub fn write_register(ok: bool, voice: Voice, register: u8, value: u8) -> Voiced<Wrote>
     ensures { result ≡ voiced ok register value voice }
 {
     if !ok {
@@ -73,11 +67,11 @@ fn applied(voice: Voice, register: u8, value: u8) -> Voice
 }
 
 // Fourteen registers, each written once, and R13 among them.
-pub fn load_registers(ok: bool, voice: Voice, bytes: [u8; 16]) -> Loaded
+pub fn load_registers(ok: bool, voice: Voice, bytes: [u8; 16]) -> Voiced<Counts>
     ensures { result ≡ voiced_all ok bytes voice }
 {
     if !ok {
-        return Loaded {
+        return Voiced {
             voice,
             answer: Counts {
                 no: refusals::OUT_OF_RANGE,
@@ -94,7 +88,7 @@ pub fn load_registers(ok: bool, voice: Voice, bytes: [u8; 16]) -> Loaded
         changed: write_effects::differences(before, left),
         restarted: 1,
     };
-    Loaded {
+    Voiced {
         voice: after,
         answer,
     }

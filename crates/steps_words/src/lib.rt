@@ -52,12 +52,18 @@ pub fn compute_next_sample<'t>(
             refusals::OUT_OF_RANGE,
         );
     }
-    let no = block_limits::block_no(start, clocks.cycles, 1);
-    if no != refusals::ACCEPTED {
-        return unplayed(voice, channels, accumulator, start, head, count, no);
+    if let Err(why) = block_limits::accept_block(start, clocks.cycles, 1) {
+        return unplayed(
+            voice,
+            channels,
+            accumulator,
+            start,
+            head,
+            count,
+            why.number(),
+        );
     }
     let bytes = voice.registers;
-    let table = tables::level_table();
     let core = Core {
         clocks,
         voice,
@@ -68,7 +74,7 @@ pub fn compute_next_sample<'t>(
         stamp: 0,
         start,
     };
-    let worded = clocking_word::word(core, stamps, registers, values, head, count, &table);
+    let worded = clocking_word::word(core, stamps, registers, values, head, count);
     let after = worded.core;
     let told = queue_effects::effects(registers, values, head, count - worded.count, bytes);
     let answer = Sample {

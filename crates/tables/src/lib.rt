@@ -13,8 +13,9 @@ const MASKS: [u32; 8] = [
     0x0000, 0x001f, 0x03e0, 0x03ff, 0x7c00, 0x7c1f, 0x7fe0, 0x7fff,
 ];
 
+// A `static` lies in one place, so that a word reads it there: a `const` table is rebuilt at each use.
 #[rattlefmt::skip]
-const LEVELS: [u16; 32] = [
+static LEVELS: [u16; 32] = [
     50, 60, 71, 85, 101, 120, 143, 170, 202, 241, 287, 341, 405, 482, 574, 682,
     811, 965, 1148, 1365, 1623, 1930, 2296, 2730, 3247, 3861, 4592, 5461, 6494, 7723, 9184, 10922,
 ];
@@ -36,17 +37,18 @@ pub fn gate_mask(bits: u8) -> u32
     MASKS[three]
 }
 
-// The 32 levels, to be lent to `level`.
+// The 32 levels.
 pub fn level_table() -> [u16; 32]
     ensures { result ≡ levels }
 {
     LEVELS
 }
 
-pub fn level(table: &[u16; 32], index: u8) -> u16
-    requires { (table.now ≡ levels) × (index < 32) }
+// One of them.
+pub fn level(index: u8) -> u16
+    requires { index < 32 }
     ensures { result ≡ level_of index }
 {
     let at = index as usize;
-    table[at]
+    LEVELS[at]
 }

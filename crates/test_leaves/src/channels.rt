@@ -1,42 +1,36 @@
-// Channels from call to call: each step is shown.
-use crate::say::form;
-use crate::{say, shown};
+// Levels and drums as a channel sounds them, and channels from call to call: each step is shown.
+use crate::shown;
 use channel::{Channel, Drum};
 use mixer::Mixed;
 use std::io;
 use three_channels::Channels;
 
-pub fn go(rt: &impl Print, kind: u64, steps: u64) -> io::Result<()> {
-    let mut s = Channels::new();
-    let mut i: u64 = 0;
-    while i < steps {
-        s = step(rt, kind, s, i)?;
-        i += 1;
+pub fn levels(rt: &impl Print) -> io::Result<()> {
+    for index in 0..32 {
+        print!(rt; "\nlevel {index}:")?;
+        shown::level(rt, index)?;
+    }
+    print!(rt; "\n16 of 31:")?;
+    shown::heard(rt, shown::sound(Channel::new(), 16, 31, false))?;
+    print!(rt; " 1 of 17, halved:")?;
+    shown::heard(rt, shown::sound(Channel::new(), 1, 17, true))
+}
+
+// Channel A, what is heard of it at level 31, and the channel after it.
+pub fn channel(rt: &impl Print) -> io::Result<()> {
+    let mut channel = Channel::new();
+    for i in 0..6 {
+        channel = channel_after(channel, i);
+        print!(rt; "\nchannel {i}:")?;
+        shown::channel(rt, channel)?;
+        let heard = shown::sound(channel, 31, 31, false);
+        shown::heard(rt, heard)?;
+        channel = heard.channel;
     }
     Ok(())
 }
 
-fn step(rt: &impl Print, kind: u64, s: Channels, i: u64) -> io::Result<Channels> {
-    match kind {
-        form::CHANNEL => channel(rt, s, i),
-        _ => word(rt, mixed(words_after(s, i), i), i),
-    }
-}
-
-// Channel A, what is heard of it at level 31, and the channel after it.
-fn channel(rt: &impl Print, s: Channels, i: u64) -> io::Result<Channels> {
-    let mut next = s;
-    let c = channel_after(s.a, i);
-    say::text(rt, form::CHANNEL_STEP, i, 0, 0, 0)?;
-    shown::channel(rt, c)?;
-    let h = shown::sound(c, 31, 31, false);
-    shown::heard(rt, h)?;
-    let after = h.channel;
-    next.a = after;
-    Ok(next)
-}
-
-fn channel_after(c: Channel, i: u64) -> Channel {
+fn channel_after(c: Channel, i: u8) -> Channel {
     match i {
         0 => c,
         1 => c.with_mute(true),
@@ -47,29 +41,52 @@ fn channel_after(c: Channel, i: u64) -> Channel {
     }
 }
 
-// A word, and what it leaves of each channel.
-fn word(rt: &impl Print, m: Mixed, i: u64) -> io::Result<Channels> {
-    let s = m.channels;
-    say::text(rt, form::WORD, i, m.word as u64, 0, 0)?;
-    shown::channel(rt, s.a)?;
-    shown::channel(rt, s.b)?;
-    shown::channel(rt, s.c)?;
-    say::text(
-        rt,
-        form::MUTED,
-        muted(s, 0),
-        muted(s, 1),
-        muted(s, 2),
-        muted(s, 3),
-    )?;
-    Ok(s)
+// Whole numbers and parts; zeros and subnormals; ends of the range and not numbers; the first sample that gives
+// 1, 2, 3, 1000, 2730, 2731, 5461, 8191, 8192, 10921 or 10922, and the one before it; samples that scale to
+// about a half more than a whole number; negative and large ones.
+#[rattlefmt::skip]
+const SAMPLES: [u32; 64] = [
+    0x3f80_0000, 0x4100_0000, 0x4080_0000, 0x3f00_0000, 0x3e80_0000, 0x4000_0000, 0x4040_0000, 0x3eaa_aaab,
+    0x0000_0000, 0x8000_0000, 0x0000_0001, 0x8000_0001, 0x007f_ffff, 0x807f_ffff, 0x0080_0000, 0x8080_0000,
+    0x7f80_0000, 0xff80_0000, 0x7f7f_ffff, 0xff7f_ffff, 0x7fc0_0000, 0xffc0_0000, 0x7f80_0001, 0xffff_ffff,
+    0x39c0_02ff, 0x39c0_0300, 0x3a40_02ff, 0x3a40_0300, 0x3a90_023f, 0x3a90_0240, 0x3ebb_82ed, 0x3ebb_82ee,
+    0x3f7f_f3ff, 0x3f7f_f400, 0x3f80_05ff, 0x3f80_0600, 0x3fff_ffff, 0x4000_0001, 0x403f_fcff, 0x403f_fd00,
+    0x4040_02ff, 0x4040_0300, 0x407f_f9ff, 0x407f_fa00, 0x407f_ffff, 0x4080_0001, 0x407f_fffe, 0x3f7f_ffff,
+    0x3940_0300, 0x3940_02ff, 0x3940_0301, 0x3a10_0240, 0x3a10_023f, 0x3fff_fa00, 0x407f_fd00, 0x403f_ffff,
+    0xbf80_0000, 0xc080_0000, 0xb9c0_0300, 0x4b00_0000, 0x4f80_0000, 0x5f00_0000, 0x7e80_0000, 0x3727_c5ac,
+];
+
+pub fn drums(rt: &impl Print) -> io::Result<()> {
+    for bits in SAMPLES {
+        let sample = script_words::float(bits);
+        print!(rt; "\ndrum {bits:08x}")?;
+        let channel = Channel::new().with_drum(Drum::Sample(sample));
+        shown::heard(rt, shown::sound(channel, 0, 31, true))?;
+    }
+    Ok(())
 }
 
-fn muted(s: Channels, channel: usize) -> u64 {
-    say::flag(s.is_muted(channel))
+// Words, and what each leaves of the channels.
+pub fn words(rt: &impl Print) -> io::Result<()> {
+    let mut channels = Channels::new();
+    for i in 0..16 {
+        let mixed = mixed(words_after(channels, i), i);
+        let word = mixed.word;
+        print!(rt; "\nword {i}: {word}")?;
+        channels = mixed.channels;
+        shown::channel(rt, channels.a)?;
+        shown::channel(rt, channels.b)?;
+        shown::channel(rt, channels.c)?;
+        print!(rt; " muted:")?;
+        for channel in 0..4 {
+            let muted = channels.is_muted(channel) as u8;
+            print!(rt; " {muted}")?;
+        }
+    }
+    Ok(())
 }
 
-fn words_after(s: Channels, i: u64) -> Channels {
+fn words_after(s: Channels, i: u8) -> Channels {
     match i {
         4 => s.set_mute(1, true),
         // no such channel
@@ -88,7 +105,7 @@ fn words_after(s: Channels, i: u64) -> Channels {
     }
 }
 
-fn mixed(s: Channels, i: u64) -> Mixed {
+fn mixed(s: Channels, i: u8) -> Mixed {
     match i {
         // a fresh chip's, where every period is at most 1
         0 => mix(s, [0, 0, 0], [true, true, true], 0, 0x7fff),
@@ -103,6 +120,5 @@ fn mixed(s: Channels, i: u64) -> Mixed {
 }
 
 fn mix(s: Channels, volumes: [u8; 3], halves: [bool; 3], envelope: u8, gate: u32) -> Mixed {
-    let table = tables::level_table();
-    mixer::mix(0, s, volumes, halves, envelope % 32, gate, &table)
+    mixer::mix(0, s, volumes, halves, envelope % 32, gate)
 }

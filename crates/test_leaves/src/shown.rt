@@ -3,83 +3,64 @@
 // channel: its mute, whether it has a drum, and the two.
 ghost use Rattle.std.specs.Prelude.{◌<◌};
 
-use crate::say::{bits, flag, form, text};
 use channel::{Channel, Drum, Heard};
+use script_print::Bits;
 use std::io;
 
 pub fn edges(rt: &impl Print, t: tone::Tone) -> io::Result<()> {
-    text(rt, form::PAIR, t.counter as u64, t.edges as u64, 0, 0)
+    let counter = t.counter;
+    let edges = t.edges;
+    print!(rt; " {counter}/{edges:x}")
 }
 
 pub fn tone(rt: &impl Print, t: tone::Tone) -> io::Result<()> {
     edges(rt, t)?;
-    text(rt, form::NUMBER, flag(t.pending), 0, 0, 0)
+    let pending = t.pending as u8;
+    print!(rt; " {pending}")
 }
 
 pub fn noise(rt: &impl Print, n: noise::Noise) -> io::Result<()> {
-    text(
-        rt,
-        form::A_NOISE,
-        n.counter as u64,
-        flag(n.half),
-        n.register as u64,
-        n.output as u64,
-    )
+    let counter = n.counter;
+    let half = n.half as u8;
+    let register = n.register;
+    let output = n.output;
+    print!(rt; " {counter} {half} {register:x} {output:x}")
 }
 
 pub fn envelope(rt: &impl Print, e: envelope::Envelope) -> io::Result<()> {
-    let start = flag(e.position == -64);
-    text(
-        rt,
-        form::AN_ENVELOPE,
-        e.counter as u64,
-        e.period as u64,
-        start,
-        e.offset as u64,
-    )
+    let counter = e.counter;
+    let period = e.period;
+    let start = (e.position == -64) as u8;
+    let offset = e.offset;
+    print!(rt; " {counter} {period} {start} {offset}")
 }
 
 pub fn gates(rt: &impl Print, g: gates::Gates) -> io::Result<()> {
-    text(rt, form::MASKS, g.tone as u64, g.noise as u64, 0, 0)
+    let tone = g.tone;
+    let noise = g.noise;
+    print!(rt; " {tone:x}/{noise:x}")
 }
 
 pub fn channel(rt: &impl Print, c: Channel) -> io::Result<()> {
-    let drum = c.drum;
-    let muted = flag(c.muted);
-    text(
-        rt,
-        form::A_CHANNEL,
-        muted,
-        has_drum(drum),
-        bits(c.output),
-        bits(c.amplitude),
-    )
-}
-
-fn has_drum(drum: Drum) -> u64 {
-    match drum {
-        Drum::Off => 0,
-        Drum::Sample(_) => 1,
-    }
+    let muted = c.muted as u8;
+    let drum = matches!(c.drum, Drum::Sample(_)) as u8;
+    let output = Bits(c.output);
+    let amplitude = Bits(c.amplitude);
+    print!(rt; " {muted} {drum} {output} {amplitude}")
 }
 
 pub fn heard(rt: &impl Print, h: Heard) -> io::Result<()> {
     let c = h.channel;
-    text(
-        rt,
-        form::HEARD,
-        h.out as u64,
-        bits(c.output),
-        bits(c.amplitude),
-        0,
-    )
+    let out = h.out;
+    let output = Bits(c.output);
+    let amplitude = Bits(c.amplitude);
+    print!(rt; " {out} {output} {amplitude}")
 }
 
 pub fn sound(c: Channel, gated: u8, ungated: u8, half: bool) -> Heard
     requires { (gated < 32) × (ungated < 32) }
 {
-    let table = tables::level_table();
-    c.compute_output(gated, ungated, half, &table)
+    c.compute_output(gated, ungated, half)
 }
 
 // A level open and shut, whole and halved.

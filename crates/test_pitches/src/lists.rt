@@ -1,11 +1,7 @@
 // Proposed lists, read from their lines and put to the call that says yes or no.
-use crate::say;
+use refusals::Refusal;
 use std::io;
 use text_entries::line_entry_at;
-
-const HIGHEST_U32: u64 = 4_294_967_295;
-
-const HIGHEST_U16: u64 = 65_535;
 
 // How many values were read, and the place after them.
 #[derive(Clone, Copy)]
@@ -14,89 +10,52 @@ struct Values {
     next: usize,
 }
 
-// False where the text is no two lists, or where a value does not fit its type.
-pub fn check(rt: &impl Print, text: &[u8], n: usize) -> io::Result<bool> {
-    if n <= text.len() {
-        return check_lines(rt, &text[..n]);
-    }
-    Ok(false)
-}
-
-// A list ends at the first line that is none of its own, so bytes are left where one does not fit.
-fn check_lines(rt: &impl Print, text: &[u8]) -> io::Result<bool> {
-    let master = line_entry_at(b"master=", text, 0);
-    if master.bad {
+// `lists=R yes` or `lists=R no`. False where the text is no two lists, or where a value does not fit its type.
+pub fn check(rt: &impl Print, text: &[u8]) -> io::Result<bool> {
+    let Some(answer) = asked(text) else {
         return Ok(false);
-    }
-    if master.value > HIGHEST_U32 {
-        return Ok(false);
-    }
-    let mut pitches = [0u32; 64];
-    let wanted = read_pitches(text, master.next, &mut pitches);
-    let mut periods = [0u16; 64];
-    let proposed = read_periods(text, wanted.next, &mut periods);
-    if proposed.next < text.len() {
-        return Ok(false);
-    }
-    ask(
-        rt,
-        master.value as u32,
-        &pitches,
-        wanted.count,
-        &periods,
-        proposed.count,
-    )?;
+    };
+    let (no, word) = match answer {
+        Ok(true) => (refusals::ACCEPTED, "yes"),
+        Ok(false) => (refusals::ACCEPTED, "no"),
+        Err(why) => (why.number(), "no"),
+    };
+    println!(rt; "lists={no} {word}")?;
     Ok(true)
 }
 
-fn read_pitches(text: &[u8], from: usize, pitches: &mut [u32]) -> Values {
-    let mut count = 0;
-    let mut at = from;
-    while count < pitches.len() {
-        let line = line_entry_at(b"pitch=", text, at);
-        if line.bad {
-            return Values { count, next: at };
-        }
-        if line.value > HIGHEST_U32 {
-            return Values { count, next: at };
-        }
-        pitches[count] = line.value as u32;
-        count += 1;
-        at = line.next;
+fn asked(text: &[u8]) -> Option<Result<bool, Refusal>> {
+    let first = line_entry_at(b"master=", text, 0);
+    let master = u32::try_from(first.value?).ok()?;
+    let mut pitches = [0u32; 64];
+    let wanted = read_list(b"pitch=", text, first.next, &mut pitches);
+    let mut periods = [0u16; 64];
+    let proposed = read_list(b"period=", text, wanted.next, &mut periods);
+    if proposed.next < text.len() {
+        return None;
     }
-    Values { count, next: at }
+    Some(pitch::are_nearest(
+        master,
+        pitches.get(..wanted.count)?,
+        periods.get(..proposed.count)?,
+    ))
 }
 
-fn read_periods(text: &[u8], from: usize, periods: &mut [u16]) -> Values {
+// A list ends at the first line that is none of its own, so bytes are left where one does not fit.
+fn read_list<T: TryFrom<u64> + Drop>(key: &[u8], text: &[u8], from: usize, list: &mut [T]) -> Values
+where
+    T::Error: Drop,
+{
     let mut count = 0;
-    let mut at = from;
-    while count < periods.len() {
-        let line = line_entry_at(b"period=", text, at);
-        if line.bad {
-            return Values { count, next: at };
-        }
-        if line.value > HIGHEST_U16 {
-            return Values { count, next: at };
-        }
-        periods[count] = line.value as u16;
+    let mut next = from;
+    for place in list.iter_mut() {
+        let line = line_entry_at(key, text, next);
+        let Some(value) = line.value.and_then(|value| T::try_from(value).ok()) else {
+            break;
+        };
+        *place = value;
         count += 1;
-        at = line.next;
+        next = line.next;
     }
-    Values { count, next: at }
-}
-
-fn ask<'t>(
-    rt: &impl Print,
-    master: u32,
-    pitches: &'t [u32],
-    n: usize,
-    periods: &'t [u16],
-    k: usize,
-) -> io::Result<()> {
-    if n <= pitches.len() {
-        if k <= periods.len() {
-            return say::checked(rt, pitch::are_nearest(master, &pitches[..n], &periods[..k]));
-        }
-    }
-    Ok(())
+    Values { count, next }
 }

@@ -6,28 +6,21 @@
 #![tactic(auto)]
 
 mod lists;
-mod say;
 
 use standard_input::read_into;
 use std::io;
 use std::io::Read;
-
-// The next byte of the input, 0 where it has ended.
-#[derive(Clone, Copy)]
-struct Next {
-    ended: bool,
-    byte: u8,
-}
+use text_entries::line_entry_at;
 
 fn main(rt: HostRuntime) -> io::Result<()> {
-    let mut text = dump_input::room();
-    check_all(&rt, &mut rt.stdin(), &mut text)
+    let mut room = dump_input::room();
+    check_all(&rt, &mut rt.stdin(), &mut room)
 }
 
 // Item after item; there are fewer than the loop has turns.
-fn check_all(rt: &impl Print, input: &mut impl Read, text: &mut [u8]) -> io::Result<()> {
+fn check_all(rt: &impl Print, input: &mut impl Read, room: &mut [u8]) -> io::Result<()> {
     for _ in 0..1_000_000_000 {
-        if !check_next(rt, input, text)? {
+        if !check_next(rt, input, room)? {
             break;
         }
     }
@@ -35,42 +28,39 @@ fn check_all(rt: &impl Print, input: &mut impl Read, text: &mut [u8]) -> io::Res
 }
 
 // False where the input has ended, or where what comes next is no item.
-fn check_next(rt: &impl Print, input: &mut impl Read, text: &mut [u8]) -> io::Result<bool> {
+fn check_next(rt: &impl Print, input: &mut impl Read, room: &mut [u8]) -> io::Result<bool> {
     let mut header = [0u8; 16];
     if read_header(input, &mut header)? == 0 {
         return Ok(false);
     }
-    if check_one(rt, input, &header, text)? {
+    if check_one(rt, input, &header, room)? {
         return Ok(true);
     }
-    say::bad(rt)?;
+    println!(rt; "bad")?;
     Ok(false)
 }
 
 // How many bytes were read, up to an LF and with it, as far as there is room; none where the input has ended.
 fn read_header(input: &mut impl Read, header: &mut [u8]) -> io::Result<usize> {
-    let mut n = 0;
-    while n < header.len() {
-        let next = next_byte(input)?;
-        if next.ended {
-            return Ok(n);
-        }
-        header[n] = next.byte;
-        n += 1;
-        if next.byte == b'\n' {
-            return Ok(n);
+    let mut length = 0;
+    for place in header.iter_mut() {
+        let Some(byte) = next_byte(input)? else {
+            break;
+        };
+        *place = byte;
+        length += 1;
+        if byte == b'\n' {
+            break;
         }
     }
-    Ok(n)
+    Ok(length)
 }
 
-fn next_byte(input: &mut impl Read) -> io::Result<Next> {
+// None where the input has ended.
+fn next_byte(input: &mut impl Read) -> io::Result<Option<u8>> {
     let mut one = [0u8; 1];
     let got = read_into(input, &mut one).count()?;
-    Ok(Next {
-        ended: got == 0,
-        byte: one[0],
-    })
+    Ok(if got == 0 { None } else { Some(one[0]) })
 }
 
 // The item that follows its header; false where it is no header, where too few bytes follow, or where they are no lists.
@@ -78,41 +68,40 @@ fn check_one(
     rt: &impl Print,
     input: &mut impl Read,
     header: &[u8],
-    text: &mut [u8],
+    room: &mut [u8],
 ) -> io::Result<bool> {
-    let notes = text_entries::line_entry_at(b"text=", header, 0);
-    let lists = text_entries::line_entry_at(b"lists=", header, 0);
-    let size = if notes.bad { lists } else { notes };
-    if size.bad {
+    let notes = line_entry_at(b"text=", header, 0).value;
+    let lists = line_entry_at(b"lists=", header, 0).value;
+    let Some(size) = notes.or(lists) else {
         return Ok(false);
-    }
-    let n = size.value as usize;
-    if !read_text(input, text, n)? {
+    };
+    let Some(text) = read_text(input, room, size as usize)? else {
         return Ok(false);
+    };
+    if notes.is_none() {
+        return lists::check(rt, text);
     }
-    if notes.bad {
-        return lists::check(rt, text, n);
-    }
-    check_notes(rt, text, n)?;
+    check_notes(rt, text)?;
     Ok(true)
 }
 
-fn read_text(input: &mut impl Read, text: &mut [u8], n: usize) -> io::Result<bool> {
-    if n <= text.len() {
-        return Ok(read_into(input, &mut text[..n]).count()? == n);
-    }
-    Ok(false)
+// So many bytes of the input; none where fewer follow, or where there is no room for them.
+fn read_text<'r>(
+    input: &mut impl Read,
+    room: &'r mut [u8],
+    size: usize,
+) -> io::Result<Option<&'r [u8]>> {
+    let Some(text) = room.get_mut(..size) else {
+        return Ok(None);
+    };
+    let got = read_into(input, text).count()?;
+    Ok(if got == size { Some(text) } else { None })
 }
 
-fn check_notes(rt: &impl Print, text: &[u8], n: usize) -> io::Result<()> {
-    if n <= text.len() {
-        return tell(rt, &text[..n]);
-    }
-    Ok(())
-}
-
-fn tell(rt: &impl Print, text: &[u8]) -> io::Result<()> {
+// A line `text`, and the list's own output.
+fn check_notes(rt: &impl Print, text: &[u8]) -> io::Result<()> {
     let mut out = notes_output::room();
     let length = notes_output::answer(text, &mut out);
-    say::notes(rt, &out, length)
+    println!(rt; "text")?;
+    rt.write_all(&out[..length])
 }

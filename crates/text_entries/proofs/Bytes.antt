@@ -1,5 +1,5 @@
 -- A value of two lower-case hex digits is a byte: what `is_byte` tells of it. Assumes nothing.
-use mathlib.Core.Bool.{Bool, true, false}
+use mathlib.Core.Bool.{Bool, true}
 use mathlib.Core.Path.{◌≡◌, sym, ◌∙◌}
 use mathlib.Core.List.{List}
 use Prim.Native.Nat.{ℕ, ◌+◌, ◌*◌, ◌≤◌, ◌<◌}
@@ -10,10 +10,7 @@ use lib.ListN.{length}
 use Rattle.laws.proofs.Lists.{both-parts}
 use Rattle.text_fields.specs.Fields.{all_hex, hex_byte}
 use Rattle.text_fields.proofs.Hexes.{hex-at}
-use Rattle.text_lines.specs.Lines.{line_at, value_at}
-use Rattle.text_lines.specs.declared.Line.{Line}
-use Rattle.text_entries.specs.Entries.{is_byte, byte_entry_at}
-use Rattle.text_entries.specs.declared.ByteEntry.{ByteEntry}
+use Rattle.text_entries.specs.Entries.{is_byte}
 
 module _ (s : List ℕ) {r : Bool} (q : r ≡ is_byte s) (h : r ≡ true) where
   parts : (eqb (length s) 2 ≡ true) × (all_hex s ≡ true)
@@ -32,13 +29,3 @@ module _ (s : List ℕ) {r : Bool} (q : r ≡ is_byte s) (h : r ≡ true) where
   pub byte-top : hex_byte s 0 ≤ 255
   unfolding hex_byte
   byte-top = omega (arith, hex-at s byte-hex 0 (omega (arith, byte-long)), hex-at s byte-hex 1 (omega (arith, byte-long)))
-
--- the two returns of `byte_entry_at`
-module _ (key text : List ℕ) (at : ℕ) {value : List ℕ} {line : Line} {r : Bool} (v : value ≡ value_at key text at) (l : line ≡ line_at text at) (q : r ≡ is_byte value) where
-  pub a_byte : {n : ℕ} → r ≡ true → n ≡ hex_byte value 0 → ◌≡◌ {A = ByteEntry} (record { bad = false; value = n; next = line.next }) (byte_entry_at key text at)
-  unfolding byte_entry_at
-  a_byte h p = rw (← v, ← l, ← q, h, p)
-
-  pub no_byte : r ≡ false → ◌≡◌ {A = ByteEntry} (record { bad = true; value = 0; next = line.next }) (byte_entry_at key text at)
-  unfolding byte_entry_at
-  no_byte h = rw (← v, ← l, ← q, h)

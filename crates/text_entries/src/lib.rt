@@ -2,82 +2,64 @@
 #![tactic(auto)]
 
 ghost use Rattle.std.specs.Prelude.{◌≡◌};
-ghost use Rattle.text_entries.specs.Entries.{byte_entry_at, is_byte, line_entry_at, long_entry_at};
+ghost use Rattle.text_entries.specs.Entries.{byte_entry_at, byte_of, is_byte, line_entry_at, long_entry_at};
 
-// A line that is missing or not of its form is bad.
+use text_lines::{line_at, value_at};
+use text_stamps::Misread;
+
+// What a line's value reads as, and where the next line starts.
 #[derive(Clone, Copy)]
-pub struct Entry {
-    pub bad: bool,
-    pub value: u64,
+pub struct Entry<V> {
+    pub value: V,
     pub next: usize,
 }
 
-pub fn line_entry_at(key: &[u8], text: &[u8], at: usize) -> Entry
+// None where the line is missing or not of its form.
+#[tactic(auto, unfolding(crate::specs::Entries::line_entry_at))]
+pub fn line_entry_at(key: &[u8], text: &[u8], at: usize) -> Entry<Option<u64>>
     ensures { result ≡ line_entry_at key.now text.now at }
 {
-    let number = text_fields::decimal(text_lines::value_at(key, text, at));
-    let line = text_lines::line_at(text, at);
     Entry {
-        bad: number.bad,
-        value: number.value,
-        next: line.next,
+        value: text_fields::decimal(value_at(key, text, at)),
+        next: line_at(text, at).next,
     }
 }
 
-// The same of a decimal of up to 20 digits; `over` is one above 2^64 - 1.
-#[derive(Clone, Copy)]
-pub struct LongEntry {
-    pub bad: bool,
-    pub over: bool,
-    pub value: u64,
-    pub next: usize,
-}
-
-pub fn long_entry_at(key: &[u8], text: &[u8], at: usize) -> LongEntry
+// The same of a decimal of up to 20 digits.
+#[tactic(auto, unfolding(crate::specs::Entries::long_entry_at))]
+pub fn long_entry_at(key: &[u8], text: &[u8], at: usize) -> Entry<Result<u64, Misread>>
     ensures { result ≡ long_entry_at key.now text.now at }
 {
-    let number = text_stamps::long_decimal(text_lines::value_at(key, text, at));
-    let line = text_lines::line_at(text, at);
-    LongEntry {
-        bad: number.bad,
-        over: number.over,
-        value: number.value,
-        next: line.next,
+    Entry {
+        value: text_stamps::long_decimal(value_at(key, text, at)),
+        next: line_at(text, at).next,
     }
 }
 
 // The same of two lower-case hex digits.
-#[derive(Clone, Copy)]
-pub struct ByteEntry {
-    pub bad: bool,
-    pub value: u8,
-    pub next: usize,
-}
-
-pub fn byte_entry_at(key: &[u8], text: &[u8], at: usize) -> ByteEntry
+#[tactic(auto, unfolding(crate::specs::Entries::byte_entry_at))]
+pub fn byte_entry_at(key: &[u8], text: &[u8], at: usize) -> Entry<Option<u8>>
     ensures { result ≡ byte_entry_at key.now text.now at }
 {
-    let digits = text_lines::value_at(key, text, at);
-    let line = text_lines::line_at(text, at);
-    if is_byte(digits) {
-        return ByteEntry {
-            bad: false,
-            value: text_fields::hex_byte(digits, 0),
-            next: line.next,
-        };
-    }
-    ByteEntry {
-        bad: true,
-        value: 0,
-        next: line.next,
+    Entry {
+        value: byte(value_at(key, text, at)),
+        next: line_at(text, at).next,
     }
 }
 
+fn byte(digits: &[u8]) -> Option<u8>
+    ensures { result ≡ byte_of digits.now }
+{
+    if is_byte(digits) {
+        Some(text_fields::hex_byte(digits, 0))
+    } else {
+        None
+    }
+}
+
+#[tactic(auto, using(std::proofs::lemmas::Bool::Decides::nat_tests), unfolding(crate::specs::Entries::is_byte))]
 fn is_byte(digits: &[u8]) -> bool
     ensures { result ≡ is_byte digits.now }
 {
-    if digits.len() == 2 {
-        return text_fields::all_hex(digits);
-    }
-    false
+    digits.len() == 2 && text_fields::all_hex(digits)
 }

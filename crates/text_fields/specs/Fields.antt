@@ -1,33 +1,30 @@
 -- Numbers in a text. 01, "The dump player". Assumes nothing.
-use Rattle.std.specs.Prelude.{ℕ, ◌+◌, ◌-◌, ◌*◌, Bool, true, false, cond, List, [], ◌∷◌, leb, ltb, eqb, length, get_or}
-use Rattle.text_fields.specs.declared.Number.{Number}
-
-abbrev pub bad : Number
-bad = record { bad = true; value = 0 }
-
-abbrev pub number : ℕ → Number
-number n = record { bad = false; value = n }
+use Rattle.std.specs.Prelude.{ℕ, ◌+◌, ◌-◌, ◌*◌, Bool, true, false, cond, List, [], ◌∷◌, Option, Some, None, leb, ltb, eqb, length, get_or}
 
 -- a 0 with digits after it
 unfoldable pub needless : List ℕ → Bool
 needless ds = cond (ltb 1 (length ds)) (eqb (get_or ds 0 0) 48) false
 
 -- digit after digit, `0` to `9`: ten times what came before, and the digit
-unfoldable pub digits : ℕ → List ℕ → Number
-digits n [] = number n
+unfoldable pub digits : ℕ → List ℕ → Option ℕ
+digits n [] = Some n
 digits n (d ∷ ds) =
     let more = digits (10 * n + (d - 48)) ds in
-    cond (ltb d 48) bad
-    (cond (ltb 57 d) bad
+    cond (ltb d 48) None
+    (cond (ltb 57 d) None
     more)
 
--- Decimals have 1 to 10 digits and no needless leading zero.
-unfoldable pub decimal_of : List ℕ → Number
-decimal_of ds =
-    cond (eqb (length ds) 0) bad
-    (cond (ltb 10 (length ds)) bad
-    (cond (needless ds) bad
+-- 1 to `most` digits and no needless leading zero
+abbrev pub decimal_up_to : ℕ → List ℕ → Option ℕ
+decimal_up_to most ds =
+    cond (eqb (length ds) 0) None
+    (cond (ltb most (length ds)) None
+    (cond (needless ds) None
     (digits 0 ds)))
+
+-- Decimals have 1 to 10 digits and no needless leading zero.
+unfoldable pub decimal_of : List ℕ → Option ℕ
+decimal_of ds = decimal_up_to 10 ds
 
 -- a lower-case hex digit's value; 16 for any other byte
 unfoldable pub hex_value : ℕ → ℕ
@@ -37,6 +34,9 @@ hex_value b =
     (cond (ltb b 97) 16
     (cond (leb b 102) (b - 87)
     16)))
+
+abbrev pub hex_digit : ℕ → Option ℕ
+hex_digit b = cond (leb (hex_value b) 15) (Some (hex_value b)) None
 
 unfoldable pub all_hex : List ℕ → Bool
 all_hex [] = true

@@ -1,62 +1,41 @@
 // Decimals and hex digits in a text. Of dumps and captures they have the limits, 10 digits and lower-case hex, and nothing else.
 #![tactic(auto)]
 
-ghost use Rattle.std.specs.Prelude.{◌≡◌, true, ◌+◌, ◌*◌, ◌<◌, length};
-ghost use Rattle.text_fields.specs.Fields.{all_hex, decimal_of, hex_byte, hex_value, needless};
-
-#[derive(Clone, Copy)]
-pub struct Number {
-    pub bad: bool,
-    pub value: u64,
-}
+ghost use Rattle.std.specs.Prelude.{◌≡◌, true, ◌+◌, ◌*◌, ◌<◌, ◌≤◌, length};
+ghost use Rattle.text_fields.specs.Fields.{all_hex, decimal_of, decimal_up_to, hex_byte, hex_digit, needless};
 
 // 1 to 10 digits with no needless leading zero.
-pub fn decimal(s: &[u8]) -> Number
+#[tactic(auto, unfolding(crate::specs::Fields::decimal_of))]
+pub fn decimal(s: &[u8]) -> Option<u64>
     ensures { result ≡ decimal_of s.now }
 {
-    let bad = Number {
-        bad: true,
-        value: 0,
-    };
-    if s.len() == 0 {
-        return bad;
+    let n = decimal_up_to(10, s)?;
+    Some(n as u64)
+}
+
+// The same of up to `most` digits; 38 are the most that fit any u128.
+#[tactic(auto, using(crate::proofs::Digits::readings))]
+pub fn decimal_up_to(most: usize, s: &[u8]) -> Option<u128>
+    requires { most ≤ 38 }
+    ensures { result ≡ decimal_up_to most s.now }
+{
+    if s.is_empty() || s.len() > most || leading_zero(s) {
+        return None;
     }
-    if s.len() > 10 {
-        return bad;
-    }
-    if leading_zero(s) {
-        return bad;
-    }
-    let mut n: u64 = 0;
-    let mut i = 0;
-    while i < s.len() {
-        let d = s[i];
-        if d < b'0' {
-            return bad;
+    let mut n = 0;
+    for d in s {
+        match d {
+            b'0'..=b'9' => n = 10 * n + (*d - b'0') as u128,
+            _ => return None,
         }
-        if d > b'9' {
-            return bad;
-        }
-        n = 10 * n + (d - b'0') as u64;
-        i += 1;
     }
-    Number {
-        bad: false,
-        value: n,
-    }
+    Some(n)
 }
 
 pub fn all_hex(s: &[u8]) -> bool
     ensures { result ≡ all_hex s.now }
 {
-    let mut i = 0;
-    while i < s.len() {
-        if hex_value(s[i]) > 15 {
-            return false;
-        }
-        i += 1;
-    }
-    true
+    s.iter().all(|b| hex_value(*b).is_some())
 }
 
 // Byte i of a run of hex digits.
@@ -65,33 +44,26 @@ pub fn hex_byte(s: &[u8], i: usize) -> u8
     requires i_in_bounds { 2 * i + 1 < length s.now }
     ensures { result ≡ hex_byte s.now i }
 {
-    let high = hex_value(s[2 * i]);
-    let low = hex_value(s[2 * i + 1]);
+    let high = hex_value(s[2 * i]).unwrap();
+    let low = hex_value(s[2 * i + 1]).unwrap();
     16 * high + low
 }
 
 // A 0 with digits after it.
+#[tactic(auto, using(std::proofs::lemmas::Bool::Decides::nat_tests), unfolding(crate::specs::Fields::needless))]
 pub fn leading_zero(s: &[u8]) -> bool
     ensures { result ≡ needless s.now }
 {
-    if s.len() > 1 { s[0] == b'0' } else { false }
+    s.len() > 1 && s[0] == b'0'
 }
 
-// 16 where b is no lower-case hex digit.
-fn hex_value(b: u8) -> u8
-    ensures { result ≡ hex_value b }
+#[tactic(auto, using(std::proofs::lemmas::Bool::Decides::nat_tests), unfolding(crate::specs::Fields::hex_value))]
+fn hex_value(b: u8) -> Option<u8>
+    ensures { result ≡ hex_digit b }
 {
-    if b < b'0' {
-        return 16;
+    match b {
+        b'0'..=b'9' => Some(b - b'0'),
+        b'a'..=b'f' => Some(b - b'a' + 10),
+        _ => None,
     }
-    if b <= b'9' {
-        return b - b'0';
-    }
-    if b < b'a' {
-        return 16;
-    }
-    if b <= b'f' {
-        return b - 87;
-    }
-    16
 }

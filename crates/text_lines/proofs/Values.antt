@@ -1,32 +1,28 @@
 -- The value of a line, as `value_at` cuts it. Assumes nothing.
-use mathlib.Core.Bool.{Bool, true, false}
-use mathlib.Core.Path.{◌≡◌, sym, ◌∙◌}
+use mathlib.Core.Bool.{true, false, not}
+use mathlib.Core.Path.{◌≡◌, refl, sym, ◌∙◌}
 use mathlib.Core.List.{List, [], ◌∷◌}
-use Prim.Native.Nat.{ℕ, zero, suc, ◌+◌, ◌-◌, ◌^◌, ◌≤◌, ◌<◌}
+use Prim.Native.Nat.{ℕ, ◌+◌, ◌-◌, ◌≤◌, ◌<◌}
 use native.Mathlib.Omega.{arith}
-use borrow.Author.Tests.{ltb-true}
+use borrow.Author.Tests.{ltb-true, eq-eqb, ne_eqb}
+use denote.Ref.{Bor}
 use lib.Dec.{eqb, ltb}
-use lib.ListN.{length, take, drop, length-take}
-use lib.Seq.{drop-drop, take-nil}
-use mir.Syntax.{w64}
-use mir.Val.{Fits}
-use Rattle.laws.proofs.Tests.{by_cond}
+use lib.ListN.{length, take, drop}
+use lib.Pointwise.{pointwise}
+use Rattle.std.specs.Prelude.{Option, Some, None, MatchOption}
+use Rattle.std.specs.Option.{unwrap_or}
+use Rattle.std.proofs.lemmas.Bool.{not-true, not-false}
+use Rattle.laws.proofs.Tests.{by_cond, by-same}
 use Rattle.text_lines.specs.Lines.{end_at, line_at, starts_with, value_at}
 use Rattle.text_lines.specs.declared.Line.{Line}
-use Rattle.laws.proofs.Lists.{both-parts}
 
--- a line that starts with the key is as long as the key
-starts-longer : (key line : List ℕ) → starts_with key line ≡ true → length key ≤ length line
+-- std compares a line's first bytes with the key as the definition does
+same-start : (key line : List ℕ) → pointwise eqb (take (length key) line) key ≡ starts_with key line
 unfolding starts_with
-starts-longer [] line e = omega arith
-starts-longer (k ∷ ks) [] e = absurd (let z : ◌≡◌ {A = ℕ} 0 1 = cc in omega arith)
-starts-longer (k ∷ ks) (b ∷ bs) e = omega (arith, starts-longer ks bs (both-parts (eqb k b) (starts_with ks bs) e).1)
-
-pub drop-take : (k n : ℕ) (l : List ℕ) → drop k (take n l) ≡ take (n - k) (drop k l)
-drop-take zero n l = let z : n - 0 ≡ n = omega arith in rw z
-drop-take (suc k) zero l = let z : 0 - suc k ≡ 0 = omega arith in rw z
-drop-take (suc k) (suc n) [] = sym (take-nil (suc n - suc k))
-drop-take (suc k) (suc n) (x ∷ l) = let z : suc n - suc k ≡ n - k = omega arith in rw z (drop-take k n l)
+same-start [] line = refl
+same-start (k ∷ ks) [] = refl
+same-start (k ∷ ks) (b ∷ bs) =
+    by-same k b (λ e. rw (eq-eqb k b e, eq-eqb b k (sym e)) (same-start ks bs)) (λ n. rw (ne_eqb k b n, ne_eqb b k (λ e. n (sym e))))
 
 module _ (t : List ℕ) (at : ℕ) where
   end_after : at ≤ (line_at t at).end
@@ -43,31 +39,19 @@ module _ (t : List ℕ) (at : ℕ) {l : Line} (q : l ≡ line_at t at) where
   pub line_after : at ≤ l.end
   line_after = rw q (end_after t at)
 
-  pub line-within : l.whole ≡ true → l.end ≤ length t
-  line-within w = let h : l.end < length t = rw q (whole-inside t at (rw q at w)) in omega arith
+  pub line-within : not l.whole ≡ false → l.end ≤ length t
+  line-within w = let h : l.end < length t = rw q (whole-inside t at (rw q at (not-false l.whole w))) in omega arith
 
-  module _ (w : l.whole ≡ true) (key : List ℕ) {r : Bool} (p : r ≡ starts_with key (take (l.end - at) (drop at t))) where
-    pub value-start : r ≡ true → at + length key ≤ l.end
-    value-start e =
-        let h : length key ≤ length (take (l.end - at) (drop at t)) = starts-longer key _ (sym p ∙ e) in
-        omega (arith, length-take (l.end - at) (drop at t), line_after, h)
-
-    pub value-fits : r ≡ true → length t < 2 ^ 64 → Fits w64 (at + length key)
-    value-fits e h = omega (arith, value-start e, line-within w)
-
-    cut : take (l.end - (at + length key)) (drop (at + length key) t) ≡ drop (length key) (take (l.end - at) (drop at t))
-    cut =
-        let z : l.end - (at + length key) ≡ l.end - at - length key = omega arith in
-        rw (z, ← drop-drop (length key) at t) (sym (drop-take (length key) (l.end - at) (drop at t)))
-
-    pub value_found : r ≡ true → take (l.end - (at + length key)) (drop (at + length key) t) ≡ value_at key t at
+  -- the line's bytes, and what stands in them after the key
+  module _ (w : not l.whole ≡ false) (key : List ℕ) where
+    pub value-found : (o : Option (Bor (List ℕ))) (d : Bor (List ℕ))
+        → MatchOption o (pointwise eqb (take (length key) (take (l.end - at) (drop at t))) key ≡ false)
+        (λ (x : Bor (List ℕ)). (pointwise eqb (take (length key) (take (l.end - at) (drop at t))) key ≡ true) × (x.now ≡ drop (length key) (take (l.end - at) (drop at t))) × (length x.now + length key ≡ length (take (l.end - at) (drop at t))))
+        → d.now ≡ [] → (unwrap_or o d).now ≡ value_at key t at
     unfolding value_at
-    value_found e = rw (← q, w, ← p, e) cut
+    value-found None d h e = e ∙ rw (← q, not-false l.whole w, ← same-start key (take (l.end - at) (drop at t)), h)
+    value-found (Some x) d h e = h.1 ∙ rw (← q, not-false l.whole w, ← same-start key (take (l.end - at) (drop at t)), h.0)
 
-    pub value-other : r ≡ false → [] ≡ value_at key t at
-    unfolding value_at
-    value-other e = rw (← q, w, ← p, e)
-
-  pub value-missing : (key : List ℕ) → l.whole ≡ false → [] ≡ value_at key t at
+  pub value-missing : (key : List ℕ) → not l.whole ≡ true → [] ≡ value_at key t at
   unfolding value_at
-  value-missing key w = rw (← q, w)
+  value-missing key w = rw (← q, not-true l.whole w)

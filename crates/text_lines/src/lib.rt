@@ -2,7 +2,7 @@
 #![tactic(auto)]
 
 ghost use Rattle.std.specs.Prelude.{◌≡◌};
-ghost use Rattle.text_lines.specs.Lines.{line_at, starts_with, value_at};
+ghost use Rattle.text_lines.specs.Lines.{line_at, value_at};
 
 // Where a line's bytes start and end, where the next line starts, and whether an LF ends this one.
 #[derive(Clone, Copy)]
@@ -16,23 +16,20 @@ pub struct Line {
 pub fn line_at(text: &[u8], at: usize) -> Line
     ensures { result ≡ line_at text.now at }
 {
-    let mut i = at;
-    while i < text.len() {
-        if text[i] == b'\n' {
-            return Line {
-                start: at,
-                end: i,
-                next: i + 1,
-                whole: true,
-            };
-        }
-        i += 1;
-    }
-    Line {
-        start: at,
-        end: i,
-        next: i,
-        whole: false,
+    let rest = text.get(at..).unwrap_or(&[]);
+    match rest.iter().position(|b| *b == b'\n') {
+        Some(length) => Line {
+            start: at,
+            end: at + length,
+            next: at + length + 1,
+            whole: true,
+        },
+        None => Line {
+            start: at,
+            end: at + rest.len(),
+            next: at + rest.len(),
+            whole: false,
+        },
     }
 }
 
@@ -41,29 +38,8 @@ pub fn value_at<'a>(key: &[u8], text: &'a [u8], at: usize) -> &'a [u8]
     ensures { result.now ≡ value_at key.now text.now at }
 {
     let line = line_at(text, at);
-    if line.whole {
-        let end = line.end;
-        if starts_with(key, &text[at..end]) {
-            let start = at + key.len();
-            return &text[start..end];
-        }
-        return &text[0..0];
+    if !line.whole {
+        return &[];
     }
-    &text[0..0]
-}
-
-fn starts_with(key: &[u8], line: &[u8]) -> bool
-    ensures { result ≡ starts_with key.now line.now }
-{
-    let mut i = 0;
-    while i < key.len() {
-        if i >= line.len() {
-            return false;
-        }
-        if key[i] != line[i] {
-            return false;
-        }
-        i += 1;
-    }
-    true
+    text[at..line.end].strip_prefix(key).unwrap_or(&[])
 }

@@ -1,18 +1,15 @@
 -- A number's hex digits put into a buffer, the last first: `put_hex`' invariant and its moves. Assumes nothing.
-use mathlib.Core.Path.{◌≡◌, refl, sym, ◌∙◌}
-use mathlib.Core.List.{List, [], ◌∷◌, ◌++◌, append_assoc, append-nil}
+use mathlib.Core.Path.{◌≡◌, sym, ◌∙◌}
+use mathlib.Core.List.{List, [], ◌∷◌, ◌++◌, append_assoc}
 use Prim.Native.Nat.{ℕ, zero, suc, ◌+◌, ◌-◌, ◌/◌, ◌%◌, ◌≤◌, ◌<◌}
 use native.Mathlib.Omega.{arith}
 use lib.ListN.{length, take, drop, get_or, set, length-set}
 use lib.Seq.{take-suc, length-take-le, set-append_seam}
 use Rattle.io.specs.Digits.{last_digits, hex_digit_ascii}
 use Rattle.text_put.specs.Text.{hex_text, overlaid}
-use Rattle.text_put.proofs.Laying.{over_none}
-use Rattle.text_put.proofs.Putting.{Put, put-none, put_all}
+use Rattle.std.proofs.lemmas.Bool.Decides.{nat_tests}
+use Rattle.text_put.proofs.Putting.{Put, put_all}
 use Rattle.text_put.proofs.Spelling.{length_digits}
-
-pub hex-tight : (out : List ℕ) (at n width : ℕ) → at ≤ length out → length out - at < width → Put out at (hex_text n width) at out
-hex-tight out at n width h g = put-none out at (hex_text n width) (omega (arith, length_digits 16 width n))
 
 -- the digits from i on stand in the buffer, and what is left of the number gives those before
 pub record Hexing (out₀ : List ℕ) (at n width : ℕ) (out : List ℕ) (rest i : ℕ) : Type 0 where
@@ -22,17 +19,6 @@ pub record Hexing (out₀ : List ℕ) (at n width : ℕ) (out : List ℕ) (rest 
   pub same : last_digits 16 i rest ++ last ≡ hex_text n width
   pub long : length out ≡ length out₀
   pub all : out ≡ overlaid out₀ (at + i) last
-
-pub hexing-start : (out : List ℕ) (at n width : ℕ) → at ≤ length out → width ≤ length out - at → Hexing out at n width out n width
-hexing-start out at n width h g =
-    record {
-      room = omega arith;
-      last = [];
-      split = omega arith;
-      same = append-nil (hex_text n width);
-      long = refl;
-      all = over_none out (at + width);
-    }
 
 -- one more byte in front of those that are laid
 laid-before : (out : List ℕ) (p g : ℕ) (last : List ℕ) → p < length out → set (overlaid out (suc p) last) p g ≡ overlaid out p (g ∷ last)
@@ -71,3 +57,5 @@ module _ {out₀ : List ℕ} {at n width : ℕ} {out : List ℕ} {rest : ℕ} wh
       put_all out₀ at (hex_text n width) (omega (arith, m.room, length_digits 16 width n)) (omega (arith, length_digits 16 width n))
       (let z : at + 0 ≡ at = omega arith in rw (← m.same) (rw z at m.all))
   hexing-ends (suc j) m h = absurd (omega arith)
+
+pub ruleset widths = (nat_tests, length_digits)

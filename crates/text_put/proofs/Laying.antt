@@ -1,9 +1,9 @@
 -- Bytes laid over a buffer, and more laid after them. Assumes nothing.
 use mathlib.Core.Path.{◌≡◌, ap, ◌∙◌}
 use mathlib.Core.List.{List, [], ◌++◌, append_assoc}
-use Prim.Native.Nat.{ℕ, ◌+◌, ◌≤◌, ◌<◌}
+use Prim.Native.Nat.{ℕ, ◌+◌, ◌≤◌}
 use native.Mathlib.Omega.{arith}
-use borrow.Author.Tests.{le-leb, lt-leb}
+use borrow.Author.Tests.{le-leb}
 use lib.ListN.{length, take, drop, length-append}
 use lib.Seq.{paste, length-take-le, take-length, take_at, drop-append-add, drop-drop, paste-zero, length-paste}
 use Rattle.text_put.specs.Text.{overlaid, laid, place_after}
@@ -16,14 +16,6 @@ module _ (out : List ℕ) (at : ℕ) (bytes : List ℕ) where
   pub place-over : at + length bytes ≤ length out → place_after out at bytes ≡ at + length bytes
   unfolding place_after
   place-over h = rw (le-leb (at + length bytes) (length out) h)
-
-  pub laid-not : length out < at + length bytes → laid out at bytes ≡ out
-  unfolding laid
-  laid-not h = rw (lt-leb (at + length bytes) (length out) h)
-
-  pub place-not : length out < at + length bytes → place_after out at bytes ≡ at
-  unfolding place_after
-  place-not h = rw (lt-leb (at + length bytes) (length out) h)
 
   -- all of the bytes, as a copy pastes them
   pub over-paste : overlaid out at bytes ≡ paste out at bytes (length bytes)

@@ -2,5 +2,4 @@ pub mod Laying
 pub mod Spelling
 pub mod Following
 pub mod Putting
-pub mod Copying
 pub mod Hexing

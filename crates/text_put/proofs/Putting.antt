@@ -1,22 +1,20 @@
--- A number put into a buffer byte after byte: `put_number`'s invariant and its moves. Assumes nothing.
-use mathlib.Core.Path.{◌≡◌, refl, sym, ap, ◌∙◌}
-use mathlib.Core.List.{List, [], ◌∷◌}
-use Prim.Native.Nat.{ℕ, suc, ◌+◌, ◌-◌, ◌^◌, ◌≤◌, ◌<◌}
-use native.Mathlib.Numerals.{add-one}
+-- What a call leaves that puts a text; and a number's digits with the byte that ends them. Assumes nothing.
+use mathlib.Core.Path.{◌≡◌, sym, ap, ◌∙◌}
+use mathlib.Core.List.{List, [], ◌∷◌, ◌++◌, append_assoc}
+use Prim.Native.Nat.{ℕ, suc, ◌+◌, ◌^◌, ◌≤◌, ◌<◌}
 use native.Mathlib.Omega.{arith}
-use lib.ListN.{length, take, get_or, set, length-append, length-set, get_or-append}
-use lib.Seq.{paste, paste-zero, paste-suc, get_or-take, get_or_at}
+use lib.ListN.{length, take, drop, get_or, set, length-append}
+use lib.Seq.{drop-cons, set-append_seam, length-take-le}
 use Rattle.io.specs.Digits.{IsDigitCount, last_digits}
 use Rattle.text_put.specs.Text.{decimal_text, number_text, overlaid, laid, place_after}
-use Rattle.text_put.proofs.Laying.{laid-over, place-over, laid-not, place-not, over-paste}
-use Rattle.text_put.proofs.Spelling.{Spelled, spelled, decimal-long}
+use Rattle.text_put.proofs.Laying.{laid-over, place-over, over-paste}
+use Rattle.std.proofs.lemmas.Bool.Decides.{nat_tests}
+use Rattle.std.proofs.lemmas.Slice.{put_mid-paste}
+use Rattle.text_put.proofs.Spelling.{spelled, decimal-long}
 
 -- the answer and the buffer at exit
 abbrev pub Put : List ℕ → ℕ → List ℕ → ℕ → List ℕ → Type 0
 Put out at bytes r after = (r ≡ place_after out at bytes) × (after ≡ laid out at bytes)
-
-pub put-none : (out : List ℕ) (at : ℕ) (bytes : List ℕ) → length out < at + length bytes → Put out at bytes at out
-put-none out at bytes h = (sym (place-not out at bytes h), sym (laid-not out at bytes h))
 
 pub put_all : (out : List ℕ) (at : ℕ) (bytes : List ℕ) → at + length bytes ≤ length out → {r : ℕ} → r ≡ at + length bytes → {after : List ℕ}
     → after ≡ overlaid out at bytes → Put out at bytes r after
@@ -27,59 +25,39 @@ pub decimal-put : (out text : List ℕ) (at : ℕ) {n k r : ℕ} {after : List �
     → r ≡ place_after out at (take k text) → after ≡ laid out at (take k text) → Put out at (decimal_text n) r after
 decimal-put out text at h f e p q = let s = spelled h f e in (rw s.same at p, rw s.same at q)
 
-number-long : (text : List ℕ) (k n end : ℕ) → Spelled text k n → length (number_text n end) ≡ k + 1
-number-long text k n end s = length-append (decimal_text n) (end ∷ []) ∙ rw s.long
+-- one byte more, right after those that are laid
+laid-after : (out : List ℕ) (at : ℕ) (text : List ℕ) (end : ℕ) → at + length text < length out
+    → set (overlaid out at text) (at + length text) end ≡ overlaid out at (text ++ (end ∷ []))
+laid-after out at text end h =
+    let front : List ℕ = take at out ++ text in
+    let long : length front ≡ at + length text = length-append (take at out) text ∙ ap (λ (k : ℕ). k + length text) (length-take-le at out (omega arith)) in
+    let z : at + length (text ++ (end ∷ [])) ≡ suc (at + length text) = omega (arith, length-append text (end ∷ [])) in
+    let s : set (front ++ (get_or out (at + length text) 0 ∷ drop (suc (at + length text)) out)) (length front) end ≡ front ++ (end ∷ drop (suc (at + length text)) out)
+    = set-append_seam front (get_or out (at + length text) 0) (drop (suc (at + length text)) out) end
+    in
+    rw (z, drop-cons out (at + length text) 0 h) ((rw long at s) ∙ simp append_assoc)
 
-pub number-outside : (out : List ℕ) (at n end : ℕ) → length out < at → Put out at (number_text n end) at out
-number-outside out at n end h = put-none out at (number_text n end) (omega arith)
+-- a number's digits, and the byte that ends them
+module _ (out text : List ℕ) (at : ℕ) {n k : ℕ} (h : n < 2 ^ 64) (f : IsDigitCount 10 1 n k) where
+  pub number-long : (end : ℕ) → length (number_text n end) ≡ k + 1
+  number-long end = length-append (decimal_text n) (end ∷ []) ∙ rw (decimal-long k n h f)
 
-pub number-tight : (out : List ℕ) (at n end k : ℕ) → n < 2 ^ 64 → IsDigitCount 10 1 n k → at ≤ length out → length out - at ≤ k
-    → Put out at (number_text n end) at out
-number-tight out at n end k b f h g =
-    put-none out at (number_text n end) (omega (arith, length-append (decimal_text n) (end ∷ []), decimal-long k n b f))
+  module _ (e : take k text ≡ last_digits 10 k n) (room : at + k < length out) {last : ℕ} (p : last ≡ place_after out at (take k text)) where
+    last-is : last ≡ at + k
+    last-is =
+        let s = spelled h f e in
+        (rw s.same at p) ∙ place-over out at (decimal_text n) (omega (arith, s.long)) ∙ ap (λ (l : ℕ). at + l) s.long
 
--- the buffer holds the text's first i bytes, and has room for all
-pub record Putting (out₀ : List ℕ) (at n end : ℕ) (text : List ℕ) (k : ℕ) (out : List ℕ) (i : ℕ) : Type 0 where
-  pub text-is : Spelled text k n
-  pub room : at + k < length out₀
-  pub few : i ≤ k
-  pub long : length out ≡ length out₀
-  pub all : out ≡ paste out₀ at (number_text n end) i
+    pub last-inside : last < length out
+    last-inside = omega (arith, last-is)
 
-pub putting-start : {out text : List ℕ} {at n k : ℕ} (end : ℕ) → Spelled text k n → at ≤ length out → k < length out - at
-    → Putting out at n end text k out 0
-putting-start {out} {text} {at} {n} {k} end s h g =
-    record { text-is = s; room = omega arith; few = omega arith; long = refl; all = paste-zero out at (number_text n end) }
+    pub number-put : (end : ℕ) {after : List ℕ} → after ≡ laid out at (take k text) → Put out at (number_text n end) (last + 1) (set after last end)
+    number-put end {after} q =
+        let s = spelled h f e in
+        let put : after ≡ overlaid out at (decimal_text n) = (rw s.same at q) ∙ laid-over out at (decimal_text n) (omega (arith, s.long)) in
+        let l : last ≡ at + length (decimal_text n) = omega (arith, last-is, s.long) in
+        put_all out at (number_text n end) (omega (arith, number-long end)) (omega (arith, number-long end, last-is)) (rw (put, l) (laid-after out at (decimal_text n) end (omega (arith, s.long))))
 
-module _ {out₀ : List ℕ} {at n end : ℕ} {text : List ℕ} {k : ℕ} {out : List ℕ} {i : ℕ} (m : Putting out₀ at n end text k out i) where
-  byte : i < k → get_or text i 0 ≡ get_or (number_text n end) i 0
-  byte h =
-      sym (get_or-take k text i 0 h) ∙ ap (λ (l : List ℕ). get_or l i 0) m.text-is.same
-      ∙ sym (get_or-append (decimal_text n) (end ∷ []) 0 i (omega (arith, m.text-is.long)))
+pub ruleset puts = (nat_tests, put_mid-paste, over-paste)
 
-  pub putting-on : i < k → Putting out₀ at n end text k (set out (at + i) (get_or text i 0)) (i + 1)
-  putting-on h =
-      record {
-        text-is = m.text-is;
-        room = m.room;
-        few = omega arith;
-        long = length-set out (at + i) (get_or text i 0) ∙ m.long;
-        all = rw (add-one, byte h, m.all)
-            (paste-suc out₀ at (number_text n end) i 0 (omega (arith, m.room)) (omega (arith, number-long text k n end m.text-is)));
-      }
-
-  -- the last store is the byte that ends it
-  ended : k ≤ i → set out (at + k) end ≡ overlaid out₀ at (number_text n end)
-  ended h =
-      let z : i ≡ k = omega (arith, m.few) in
-      let l : length (number_text n end) ≡ suc k = omega (arith, number-long text k n end m.text-is) in
-      let p : set (paste out₀ at (number_text n end) k) (at + k) (get_or (number_text n end) k 0) ≡ paste out₀ at (number_text n end) (suc k)
-      = paste-suc out₀ at (number_text n end) k 0 m.room (omega arith)
-      in
-      let a : out ≡ paste out₀ at (number_text n end) k = rw z at m.all in
-      rw (a, over-paste out₀ at (number_text n end), l) (rw (get_or_at (decimal_text n) end [] 0 k m.text-is.long) at p)
-
-  pub putting-ends : k ≤ i → Put out₀ at (number_text n end) (at + k + 1) (set out (at + k) end)
-  putting-ends h =
-      let l : length (number_text n end) ≡ k + 1 = number-long text k n end m.text-is in
-      put_all out₀ at (number_text n end) (omega (arith, m.room)) (omega arith) (ended h)
+pub ruleset lengths = (nat_tests, number-long)

@@ -4,59 +4,21 @@
 ghost use Rattle.std.specs.Prelude.{◌≡◌};
 ghost use Rattle.text_stamps.specs.Stamps.{long_decimal_of};
 
-use text_fields::leading_zero;
+use text_fields::decimal_up_to;
 
-// `over` is a decimal of good form above 2^64 - 1; its value is 0.
-#[derive(Clone, Copy)]
-pub struct LongNumber {
-    pub bad: bool,
-    pub over: bool,
-    pub value: u64,
+// Why a text gives no stamp.
+#[derive(Clone, Copy, Debug, PartialEq, Eq)]
+pub enum Misread {
+    NotOfForm,
+    // a decimal of good form above 2^64 - 1
+    TooHigh,
 }
 
 // 1 to 20 digits with no needless leading zero.
-pub fn long_decimal(s: &[u8]) -> LongNumber
+#[tactic(auto, unfolding(crate::specs::Stamps::long_decimal_of))]
+pub fn long_decimal(s: &[u8]) -> Result<u64, Misread>
     ensures { result ≡ long_decimal_of s.now }
 {
-    let bad = LongNumber {
-        bad: true,
-        over: false,
-        value: 0,
-    };
-    if s.len() == 0 {
-        return bad;
-    }
-    if s.len() > 20 {
-        return bad;
-    }
-    if leading_zero(s) {
-        return bad;
-    }
-    let mut n: u64 = 0;
-    let mut i = 0;
-    while i < s.len() {
-        let d = s[i];
-        if d < b'0' {
-            return bad;
-        }
-        if d > b'9' {
-            return bad;
-        }
-        let digit = (d - b'0') as u64;
-        // only the twentieth digit can go over, and it is the last
-        if n > (0xffff_ffff_ffff_ffff - digit) / 10 {
-            return LongNumber {
-                bad: false,
-                over: true,
-                value: 0,
-            };
-        }
-        n = 10 * n + digit;
-        i += 1;
-    }
-    LongNumber {
-        bad: false,
-        over: false,
-        value: n,
-    }
+    let n = decimal_up_to(20, s).ok_or(Misread::NotOfForm)?;
+    u64::try_from(n).map_err(|_| Misread::TooHigh)
 }

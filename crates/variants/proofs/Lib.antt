@@ -1,1 +1,2 @@
 pub mod Makings
+pub mod Cases

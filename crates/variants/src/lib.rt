@@ -2,26 +2,27 @@
 #![tactic(auto)]
 
 ghost use Rattle.std.specs.Prelude.{◌≡◌};
-ghost use Rattle.variants.specs.Variants.{making_no, variant_in};
+ghost use Rattle.variants.specs.Variants.{accept_making, variant_in};
 
-// The crate's part, the full-scale part and the 16-step sister part.
+use refusals::Refusal;
+
+// The crate's part, the full-scale part and the 16-step sister part. A byte, as C's record has it, where any byte can stand.
 pub const LAST_VARIANT: u8 = 2;
 
+#[tactic(auto, unfolding(crate::specs::Variants::variant_in))]
 pub fn variant_in(variant: u8) -> bool
     ensures { result ≡ variant_in variant }
 {
     variant <= LAST_VARIANT
 }
 
-pub fn making_no(master: u32, rate: u32, variant: u8) -> u8
-    ensures { result ≡ making_no master rate variant }
+#[tactic(auto, unfolding(crate::specs::Variants::accept_making))]
+pub fn accept_making(master: u32, rate: u32, variant: u8) -> Result<(), Refusal>
+    ensures { result ≡ accept_making master rate variant }
 {
-    let no = clocks::clocks_no(master, rate);
-    if no != refusals::ACCEPTED {
-        return no;
-    }
+    clocks::accept_clocks(master, rate)?;
     if !variant_in(variant) {
-        return refusals::NO_SUCH_VARIANT;
+        return Err(Refusal::NoSuchVariant);
     }
-    refusals::ACCEPTED
+    Ok(())
 }

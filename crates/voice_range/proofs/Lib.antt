@@ -1,3 +1,2 @@
-pub mod Positions
 pub mod Bytes
 pub mod InRange

@@ -11,125 +11,70 @@ use noise::Noise;
 use registers::Voice;
 use tone::Tone;
 
+#[tactic(auto, unfolding(crate::specs::Range::voice_in))]
 pub fn voice_in(voice: Voice) -> bool
     ensures { result ≡ voice_in voice }
 {
-    let registers = voice.registers;
-    if !bytes_in(registers) {
-        return false;
-    }
-    if !generators_in(voice.generators) {
-        return false;
-    }
-    if !gates_in(voice.gates) {
-        return false;
-    }
-    true
+    bytes_in(voice.registers) && generators_in(voice.generators) && gates_in(voice.gates)
 }
 
 fn bytes_in(registers: [u8; 14]) -> bool
     ensures { result ≡ bytes_in registers }
 {
-    let mut i: usize = 0;
-    while i < 14 {
-        if registers[i] > tables::register_mask(i) {
-            return false;
-        }
-        i = i + 1;
-    }
-    true
+    registers
+        .iter()
+        .enumerate()
+        .all(|(i, byte)| *byte <= tables::register_mask(i))
 }
 
 #[tactic(auto, unfolding(crate::specs::Range::generators_in))]
 fn generators_in(generators: Generators) -> bool
     ensures { result ≡ generators_in generators }
 {
-    if !tone_in(generators.a, tone::BITS_A) {
-        return false;
-    }
-    if !tone_in(generators.b, tone::BITS_B) {
-        return false;
-    }
-    if !tone_in(generators.c, tone::BITS_C) {
-        return false;
-    }
-    if !noise_in(generators.noise) {
-        return false;
-    }
-    if !envelope_in(generators.envelope) {
-        return false;
-    }
-    true
+    tone_in(generators.a, tone::BITS_A)
+        && tone_in(generators.b, tone::BITS_B)
+        && tone_in(generators.c, tone::BITS_C)
+        && noise_in(generators.noise)
+        && envelope_in(generators.envelope)
 }
 
+#[tactic(auto, unfolding(crate::specs::Range::tone_in))]
 fn tone_in(tone: Tone, bits: u32) -> bool
     ensures { result ≡ tone_in bits tone }
 {
-    if tone.period > 4095 {
-        return false;
-    }
-    if tone.edges & bits != tone.edges {
-        return false;
-    }
-    true
+    tone.period <= 4095 && tone.edges & bits == tone.edges
 }
 
+#[tactic(auto, unfolding(crate::specs::Range::noise_in))]
 fn noise_in(noise: Noise) -> bool
     ensures { result ≡ noise_in noise }
 {
-    if noise.period > 31 {
-        return false;
-    }
-    if noise.register < 1 {
-        return false;
-    }
-    if noise.register > 131_071 {
-        return false;
-    }
-    if !all_or_none(noise.output) {
-        return false;
-    }
-    true
+    noise.period <= 31
+        && noise.register >= 1
+        && noise.register <= 131_071
+        && all_or_none(noise.output)
 }
 
+#[tactic(auto, unfolding(crate::specs::Range::all_or_none))]
 fn all_or_none(output: u32) -> bool
     ensures { result ≡ all_or_none output }
 {
-    if output == 0 {
-        return true;
-    }
-    if output == 0xffff_ffff {
-        return true;
-    }
-    false
+    output == 0 || output == 0xffff_ffff
 }
 
+#[tactic(auto, unfolding(crate::specs::Range::envelope_in))]
 fn envelope_in(envelope: Envelope) -> bool
     ensures { result ≡ envelope_in envelope }
 {
-    if envelope.position < envelope::START {
-        return false;
-    }
-    if envelope.position > 63 {
-        return false;
-    }
-    if envelope.offset % 128 != 0 {
-        return false;
-    }
-    if envelope.offset > 1152 {
-        return false;
-    }
-    true
+    envelope.position >= envelope::START
+        && envelope.position <= 63
+        && envelope.offset % 128 == 0
+        && envelope.offset <= 1152
 }
 
+#[tactic(auto, unfolding(crate::specs::Range::gates_in))]
 fn gates_in(gates: Gates) -> bool
     ensures { result ≡ gates_in gates }
 {
-    if gates.tone > 0x7fff {
-        return false;
-    }
-    if gates.noise > 0x7fff {
-        return false;
-    }
-    true
+    gates.tone <= 0x7fff && gates.noise <= 0x7fff
 }

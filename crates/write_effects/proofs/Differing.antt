@@ -13,9 +13,6 @@ pub record Differing (before after : List ℕ) (found i : ℕ) : Type 0 where
   pub few : found ≤ i
   pub rest : found + differences (14 - i) i before after ≡ differences 14 0 before after
 
-pub differing-start : (before after : List ℕ) → Differing before after 0 0
-differing-start before after = record { place = omega arith; few = omega arith; rest = omega arith }
-
 pub one-le : (happened : Bool) → one happened ≤ 1
 one-le true = omega arith
 one-le false = omega arith

@@ -40,10 +40,8 @@ pub fn differences(before: [u8; 14], after: [u8; 14]) -> u32
     ensures { result ≡ differences 14 0 before after }
 {
     let mut found: u32 = 0;
-    let mut i = 0;
-    while i < 14 {
-        found = counted(found, after[i] != before[i]);
-        i += 1;
+    for (old, new) in before.iter().zip(after.iter()) {
+        found = counted(found, new != old);
     }
     found
 }

@@ -7,5 +7,5 @@ returns-clause-answer c =
 
 pub returns-clause-left : goal.returns-clause-left
 returns-clause-left c =
-    rw (c.put_stamp.ensures, c.put_byte.ensures, c.put_byte-2.ensures, c.write_port-queued.ensures, c.in_range-ok.ensures.answer)
+    rw (c.put.ensures, c.put-2.ensures, c.put-3.ensures, c.keep_drums.ensures, c.write_port-queued.ensures, c.lent_drums.ensures, c.in_range-ok.ensures.answer)
     (port-left c.args.port c.args.value c.args.chip.now)

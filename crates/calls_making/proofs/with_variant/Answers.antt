@@ -1,20 +1,25 @@
--- `calls_making::with_variant` meets its contract: the making's number says which case holds. Assumes nothing.
-use mathlib.Core.Path.{sym, ap₂, ◌∙◌}
+-- `calls_making::with_variant` meets its contract: the making's test says which case holds. Assumes nothing.
+use mathlib.Core.Path.{ap₂, ◌∙◌}
 use Prim.Native.Nat.{ℕ}
 use Rattle.laws.proofs.Tests.{on-eq, on-ne}
 use Rattle.chip.specs.declared.Chip.{Chip}
 use Rattle.answers.specs.Answers.{answered}
-use Rattle.calls_making.specs.Making.{with_variant}
+use Rattle.refusals.proofs.Tested.{accepted-by, refused-by, refused-some}
+use Rattle.variants.specs.Variants.{making_no}
 use Rattle.variants.proofs.Makings.{clocks-accepted}
+use Rattle.calls_making.specs.Making.{with_variant}
 use Rattle.calls_making.proofs.with_variant.Goals as goal
 
-pub returns-then-no-ne-ACCEPTED : goal.returns-then-no-ne-ACCEPTED
-unfolding with_variant
-returns-then-no-ne-ACCEPTED c = on-ne _ 0 _ _ _ (λ e. c.if-no-ne-ACCEPTED.true (c.making_no-no.ensures ∙ e)) (ap₂ (λ (n : ℕ) (chip : Chip). answered n chip) c.making_no-no.ensures c.new-chip.ensures)
-
 pub clocks_of-requires : goal.clocks_of-requires
-clocks_of-requires c = clocks-accepted _ _ _ (sym c.making_no-no.ensures ∙ c.if-no-ne-ACCEPTED.false)
+unfolding making_no
+clocks_of-requires c = clocks-accepted _ _ _ (accepted-by c.accept_making.ensures c.in-Ok.is)
 
-pub returns : goal.returns
-unfolding with_variant
-returns c = on-eq _ 0 _ _ _ (sym c.making_no-no.ensures ∙ c.if-no-ne-ACCEPTED.false) (c.accepted.ensures ∙ rw (c.made.ensures, c.clocks_of.ensures))
+pub returns-in-Ok : goal.returns-in-Ok
+unfolding with_variant making_no
+returns-in-Ok c = on-eq _ 0 _ _ _ (accepted-by c.accept_making.ensures c.in-Ok.is) (c.accepted.ensures ∙ rw (c.made.ensures, c.clocks_of.ensures))
+
+pub returns-in-Err : goal.returns-in-Err
+unfolding with_variant making_no
+returns-in-Err c =
+    on-ne _ 0 _ _ _ (refused-some c.accept_making.ensures c.in-Err.is)
+    (ap₂ (λ (n : ℕ) (chip : Chip). answered n chip) (c.number.ensures ∙ refused-by c.accept_making.ensures c.in-Err.is) c.new.ensures)

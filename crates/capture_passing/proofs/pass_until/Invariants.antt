@@ -2,8 +2,5 @@
 use Rattle.capture_passing.proofs.Walking.{Walking}
 use Rattle.capture_passing.proofs.pass_until.Given as goal
 
-abbrev pub invariant-loop-left : goal.invariant-loop-left
-invariant-loop-left l = Walking l.text l.end l.writes l.at-2 l.initial.chip l.chip l.at l.left
-
-abbrev pub decreases-loop-left : goal.decreases-loop-left
-decreases-loop-left l = l.left
+abbrev pub invariant-loop-k : goal.invariant-loop-k
+invariant-loop-k l = Walking l.text l.end l.writes l.at-2 l.initial.chip l.chip l.at l.k

@@ -1,30 +1,28 @@
 -- `chip::clocks_in` meets its contract. Assumes nothing.
-use mathlib.Core.Path.{sym, ◌∙◌}
 use Rattle.laws.proofs.Tests.{tests}
-use Rattle.clocks.proofs.Accepted.{accepts}
-use Rattle.chip.proofs.Verdicts.{numbers}
+use Rattle.clocks.proofs.Accepted.{accepts, accepted-when, refused-when}
 use Rattle.chip.specs.Range.{clocks_in}
 use Rattle.chip.proofs.clocks_in.Goals as goal
 
-pub returns-then-clocks_no-ne-ACCEPTED : goal.returns-then-clocks_no-ne-ACCEPTED
+pub returns-then-is_err : goal.returns-then-is_err
 unfolding clocks_in
-returns-then-clocks_no-ne-ACCEPTED c = search (tests, numbers)
+returns-then-is_err c = let f = refused-when _ _ c.accept_clocks.ensures c.is_err.ensures.value c.if-is_err.true in search tests
 
 pub returns-then-clocks : goal.returns-then-clocks
 unfolding clocks_in
-returns-then-clocks c = search (tests, numbers)
+returns-then-clocks c = let e = accepted-when _ _ c.accept_clocks.ensures c.is_err.ensures.value c.if-is_err.false in search tests
 
 pub nonzero_div-clocks-2 : goal.nonzero_div-clocks-2
-nonzero_div-clocks-2 c = (accepts _ _ (sym c.clocks_no.ensures ∙ c.if-clocks_no-ne-ACCEPTED.false)).some
+nonzero_div-clocks-2 c = (accepts _ _ (accepted-when _ _ c.accept_clocks.ensures c.is_err.ensures.value c.if-is_err.false)).some
 
 pub returns-then-clocks-2 : goal.returns-then-clocks-2
 unfolding clocks_in
-returns-then-clocks-2 c = search (tests, numbers)
+returns-then-clocks-2 c = let e = accepted-when _ _ c.accept_clocks.ensures c.is_err.ensures.value c.if-is_err.false in search tests
 
 pub returns-then-accumulator-clocks : goal.returns-then-accumulator-clocks
 unfolding clocks_in
-returns-then-accumulator-clocks c = search (tests, numbers)
+returns-then-accumulator-clocks c = let e = accepted-when _ _ c.accept_clocks.ensures c.is_err.ensures.value c.if-is_err.false in search tests
 
 pub returns : goal.returns
 unfolding clocks_in
-returns c = search (tests, numbers)
+returns c = let e = accepted-when _ _ c.accept_clocks.ensures c.is_err.ensures.value c.if-is_err.false in search tests

@@ -5,7 +5,7 @@ use Rattle.clocking_block.proofs.Filling.{filling-start, next-soon, all-soon, dr
 use Rattle.clocking_block.proofs.render.Goals as goal
 
 pub loop-i-init : goal.loop-i-init
-loop-i-init c = filling-start c.level_table-table.ensures c.wave_of-wave.ensures c.scale_of-scale.ensures c.requires.core_in_range c.requires.queue_in_range c.requires.out_len_bound c.requires.cycles_bound
+loop-i-init c = filling-start c.wave_of-wave.ensures c.scale_of-scale.ensures c.requires.core_in_range c.requires.queue_in_range c.requires.out_len_bound c.requires.cycles_bound
 
 pub overflow_add-end : goal.overflow_add-end
 overflow_add-end c = record { fits = next-soon c.loop-i.invariant c.loop-i-test.true }
@@ -20,7 +20,7 @@ pub next_due-due-requires : goal.next_due-due-requires
 next_due-due-requires c = (drained-queue c.loop-i.invariant c.drain-drained.ensures).head
 
 pub run_words-run-requires : goal.run_words-run-requires
-run_words-run-requires c = let inv = c.loop-i.invariant in record { core_in_range = due-ok inv c.drain-drained.ensures; table_value = inv.table; wave_value = c.wave_after-wave.ensures; scale_value = inv.scale; first_in_bounds = (c.loop-i-test.true, omega (arith, inv.long, inv.room)); cycles_bound = all-soon inv }
+run_words-run-requires c = let inv = c.loop-i.invariant in record { core_in_range = due-ok inv c.drain-drained.ensures; wave_value = c.wave_after-wave.ensures; scale_value = inv.scale; first_in_bounds = (c.loop-i-test.true, omega (arith, inv.long, inv.room)); cycles_bound = all-soon inv }
 
 pub overflow_add-ticks : goal.overflow_add-ticks
 overflow_add-ticks c = let inv = c.loop-i.invariant in
@@ -38,7 +38,7 @@ loop-i-preserved c = let inv = c.loop-i.invariant in
     filling-on inv c.drain-drained.ensures c.next_due-due.ensures c.run_words-run.ensures c.wave_after-wave.ensures
 
 pub kept_of_word-channels-requires : goal.kept_of_word-channels-requires
-kept_of_word-channels-requires c = let inv = c.loop-i.invariant in record { envelope_in_range = inv.ok.voice.generators.envelope; table_value = inv.table }
+kept_of_word-channels-requires c = let inv = c.loop-i.invariant in record { envelope_in_range = inv.ok.voice.generators.envelope }
 
 pub shape_of-out-then-i-gt0 : goal.shape_of-out-then-i-gt0
 shape_of-out-then-i-gt0 c = c.loop-i.invariant.long

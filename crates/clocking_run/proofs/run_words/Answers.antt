@@ -29,7 +29,7 @@ level_in-level-requires c = let inv = c.loop-more.invariant in
 pub word-requires : goal.word-requires
 word-requires c = let inv = c.loop-more.invariant in
     let ran = ran-next inv c.loop-more-test.true c.run_ticks-ran.ensures in
-    let level = envelope-level-lt (ran-ok inv c.loop-more-test.true ran).voice.generators.envelope in record { are_sources = are-sources _ c.volumes_of.result c.sources-sources.ensures (made _ inv.scale); used_bound = rw (c.used.ensures, c.level_in-level.ensures) (used-lt _ _ level); table_value = inv.table }
+    let level = envelope-level-lt (ran-ok inv c.loop-more-test.true ran).voice.generators.envelope in record { are_sources = are-sources _ c.volumes_of.result c.sources-sources.ensures (made _ inv.scale); used_bound = rw (c.used.ensures, c.level_in-level.ensures) (used-lt _ _ level) }
 
 pub bounds-out-i : goal.bounds-out-i
 bounds-out-i c = let z = c.loop-more.invariant.goes c.loop-more-test.true in omega (arith, c.loop-more.invariant.long)

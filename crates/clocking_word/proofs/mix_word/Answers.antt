@@ -4,7 +4,7 @@ use Rattle.clocking_word.specs.Word.{mixed_of}
 use Rattle.clocking_word.proofs.mix_word.Goals as goal
 
 pub mix-requires : goal.mix-requires
-mix-requires c = record { envelope_bound = rw c.level-level.ensures (envelope-level-lt c.requires.envelope_in_range); table_value = c.requires.table_value }
+mix-requires c = record { envelope_bound = rw c.level-level.ensures (envelope-level-lt c.requires.envelope_in_range) }
 
 pub returns : goal.returns
 unfolding mixed_of

@@ -30,14 +30,14 @@ loop-count-preserved c =
     let kept = c.loop-count.invariant in
     record {
       same_text = rw e.1 kept.same_text;
-      rest = rw (onward _ kept.same_text e.0 e.2) (sym (read-on _ _ _ _ c.loop-count-test.true (asked _ kept.same_text e.0 c.frame_at.ensures c.if-frame_at.true)) ∙ kept.rest);
+      rest = rw (onward _ kept.same_text e.0 e.2) (sym (read-on _ _ _ _ c.loop-count-test.true (asked _ kept.same_text e.0 c.frame_at.ensures c.if-not-frame_at.false)) ∙ kept.rest);
     }
 
-pub returns-after-loop-count : goal.returns-after-loop-count
-returns-after-loop-count c = sym (read_all _ _ _ _ c.loop-count-test.false) ∙ c.loop-count.invariant.rest
+pub returns : goal.returns
+returns c = sym (read_all _ _ _ _ c.loop-count.auto.count-end c.loop-count-test.false) ∙ c.loop-count.invariant.rest
 
-pub returns-else-frame_at : goal.returns-else-frame_at
-returns-else-frame_at c =
+pub returns-then-not-frame_at : goal.returns-then-not-frame_at
+returns-then-not-frame_at c =
     let e = c.next_line-line.ensures in
     let kept = c.loop-count.invariant in
-    rw (onward _ kept.same_text e.0 e.2) (sym (read-bad _ _ _ _ c.loop-count-test.true (asked _ kept.same_text e.0 c.frame_at.ensures c.if-frame_at.false)) ∙ kept.rest)
+    rw (onward _ kept.same_text e.0 e.2) (sym (read-bad _ _ _ _ c.loop-count-test.true (asked _ kept.same_text e.0 c.frame_at.ensures c.if-not-frame_at.true)) ∙ kept.rest)

@@ -8,6 +8,3 @@ invariant-loop-count l = record {
   same_text : l.r.text.now ≡ l.text;
   rest : counted l.count (frames_read l.text (l.frames - l.count) l.r.at) ≡ frames_read l.text l.frames l.body;
 }
-
-abbrev pub decreases-loop-count : goal.decreases-loop-count
-decreases-loop-count l = l.frames - l.count

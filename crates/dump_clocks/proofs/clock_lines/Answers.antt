@@ -1,22 +1,18 @@
--- `dump_clocks::clock_lines` meets its contract: a law of `Places` for each return. Assumes nothing.
-use Rattle.dump_lines.proofs.Ranges.{master-fits, rate-fits}
-use Rattle.dump_clocks.proofs.Places.{too_long, at-line-1, at-line-2, past-clocks}
+-- `dump_clocks::clock_lines` meets its contract: what is read at the reader's places (`Places`). Assumes nothing.
+use Rattle.std.proofs.Common.{arith}
+use Rattle.std.proofs.lemmas.Grind.{common_steps}
+use Rattle.dump_lines.proofs.Ranges.{rate-range}
+use Rattle.dump_clocks.proofs.Places.{reads}
 use Rattle.dump_clocks.proofs.clock_lines.Goals as goal
 
-pub returns-then-text-gt-LONGEST_TEXT : goal.returns-then-text-gt-LONGEST_TEXT
-returns-then-text-gt-LONGEST_TEXT c = search too_long
+pub returns-in_err-master : goal.returns-in_err-master
+returns-in_err-master c = rw (reads _ c.first_lines-lines.ensures c.if-text-gt-LONGEST_TEXT.false) (grind (arith, common_steps))
 
-pub returns-then-first-gt0 : goal.returns-then-first-gt0
-returns-then-first-gt0 c = search at-line-1
-
-pub returns-then-second-gt0 : goal.returns-then-second-gt0
-returns-then-second-gt0 c = search at-line-2
+pub returns-in_err-rate : goal.returns-in_err-rate
+returns-in_err-rate c = rw (reads _ c.first_lines-lines.ensures c.if-text-gt-LONGEST_TEXT.false) (grind (arith, common_steps))
 
 pub overflow_cast-result : goal.overflow_cast-result
-overflow_cast-result c = search master-fits
-
-pub overflow_cast-result-2 : goal.overflow_cast-result-2
-overflow_cast-result-2 c = search rate-fits
+overflow_cast-result c = grind (arith, common_steps, rate-range)
 
 pub returns : goal.returns
-returns c = search past-clocks
+returns c = rw (reads _ c.first_lines-lines.ensures c.if-text-gt-LONGEST_TEXT.false) (grind (arith, common_steps))

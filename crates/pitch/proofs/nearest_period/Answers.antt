@@ -14,10 +14,10 @@ pub returns-then-not-pitch_in : goal.returns-then-not-pitch_in
 unfolding nearest_period
 returns-then-not-pitch_in c = search calls
 
-pub nearest-period-requires : goal.nearest-period-requires
-nearest-period-requires c = record { master_in = master-tested _ _ c.master_in.ensures (ap not c.if-not-master_in.false); pitch_in = pitch-tested _ _ c.pitch_in.ensures (ap not c.if-not-pitch_in.false) }
+pub nearest-requires : goal.nearest-requires
+nearest-requires c = record { master_in = master-tested _ _ c.master_in.ensures (ap not c.if-not-master_in.false); pitch_in = pitch-tested _ _ c.pitch_in.ensures (ap not c.if-not-pitch_in.false) }
 
 pub returns : goal.returns
 unfolding nearest_period
 returns c = on-yes _ _ _ _ _ c.master_in.ensures (ap not c.if-not-master_in.false)
-    (on-yes _ _ _ _ _ c.pitch_in.ensures (ap not c.if-not-pitch_in.false) (rw c.nearest-period.ensures))
+    (on-yes _ _ _ _ _ c.pitch_in.ensures (ap not c.if-not-pitch_in.false) (rw c.nearest.ensures))

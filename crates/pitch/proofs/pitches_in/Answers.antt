@@ -2,14 +2,14 @@
 use Rattle.pitch.proofs.Lists.{pitches-start, pitches-off, pitches-on, pitches-end}
 use Rattle.pitch.proofs.pitches_in.Goals as goal
 
-pub loop-i-init : goal.loop-i-init
-loop-i-init c = pitches-start
+pub loop-pitch-init : goal.loop-pitch-init
+loop-pitch-init c = pitches-start
 
 pub returns-then-not-pitch_in : goal.returns-then-not-pitch_in
 returns-then-not-pitch_in c = search pitches-off
 
-pub loop-i-preserved : goal.loop-i-preserved
-loop-i-preserved c = search pitches-on
+pub loop-pitch-preserved : goal.loop-pitch-preserved
+loop-pitch-preserved c = search pitches-on
 
 pub returns : goal.returns
 returns c = search pitches-end

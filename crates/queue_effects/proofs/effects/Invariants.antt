@@ -2,8 +2,5 @@
 use Rattle.queue_effects.proofs.Counting.{Counting}
 use Rattle.queue_effects.proofs.effects.Given as goal
 
-abbrev pub invariant-loop-left : goal.invariant-loop-left
-invariant-loop-left l = Counting l.registers l.values l.head l.applied l.initial.held l.held l.changed l.restarted l.at l.left
-
-abbrev pub decreases-loop-left : goal.decreases-loop-left
-decreases-loop-left l = l.left
+abbrev pub invariant-loop-i : goal.invariant-loop-i
+invariant-loop-i l = Counting l.registers l.values l.head l.applied l.initial.held l.held l.changed l.restarted l.i

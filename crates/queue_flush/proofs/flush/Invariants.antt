@@ -3,8 +3,5 @@ use Rattle.queue.specs.Waiting.{ring}
 use Rattle.queue_flush.proofs.Flushing.{Flushing}
 use Rattle.queue_flush.proofs.flush.Given as goal
 
-abbrev pub invariant-loop-left : goal.invariant-loop-left
-invariant-loop-left l = Flushing (ring l.stamps l.registers l.values l.head l.count) l.initial.v l.v l.at l.left
-
-abbrev pub decreases-loop-left : goal.decreases-loop-left
-decreases-loop-left l = l.left
+abbrev pub invariant-loop-i : goal.invariant-loop-i
+invariant-loop-i l = Flushing (ring l.stamps l.registers l.values l.head l.count) l.initial.v l.v l.i

@@ -1,11 +1,6 @@
--- `read_header` is safe and ends: each byte fills a place. Assumes nothing.
-use Prim.Native.Nat.{◌-◌}
-use mathlib.Core.Path.{◌≡◌}
-use lib.ListN.{length}
+-- `read_header` is safe: each byte fills a place. Assumes nothing.
+use Rattle.std.proofs.Common.{◌≤◌}
 use Rattle.test_dumps.proofs.read_header.Given as goal
 
-abbrev pub invariant-loop-n : goal.invariant-loop-n
-invariant-loop-n g l = length l.header ≡ length l.initial.header
-
-abbrev pub decreases-loop-n : goal.decreases-loop-n
-decreases-loop-n g l = length l.initial.header - l.n
+abbrev pub invariant-loop-place : goal.invariant-loop-place
+invariant-loop-place g l = l.length ≤ l.place-index

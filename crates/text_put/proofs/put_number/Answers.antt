@@ -1,24 +1,19 @@
--- `put_number` meets its contract: the buffer holds the text's first i bytes (`Putting`), then the byte that ends it. Assumes nothing.
-use native.Mathlib.Omega.{arith}
-use lib.ListN.{length-set}
-use Rattle.text_put.proofs.Spelling.{spelled}
-use Rattle.text_put.proofs.Putting.{number-outside, number-tight, putting-start, putting-on, putting-ends}
+-- `put_number` meets its contract: the digits stand in the buffer, and the byte that ends them after them. Assumes nothing.
+use Rattle.std.proofs.Common.{arith}
+use Rattle.text_put.proofs.Putting.{last-inside, number-put}
 use Rattle.text_put.proofs.put_number.Goals as goal
 
-pub returns-then-at-out : goal.returns-then-at-out
-returns-then-at-out c = let both = number-outside _ _ _ _ c.if-at-out.true in record { place = both.0; text = both.1 }
+pub bounds-out-last : goal.bounds-out-last
+bounds-out-last c =
+    let inside = last-inside c.args.out.now c.decimal-k.new.out c.args.at (omega arith) c.decimal-k.ensures.len c.decimal-k.ensures.digits (omega arith) c.put_bytes-last.ensures.place in
+    omega (arith, inside, c.put_bytes-last.auto.out)
 
-pub returns-then-k-out : goal.returns-then-k-out
-returns-then-k-out c = let both = number-tight _ _ _ _ _ (omega arith) c.decimal-k.ensures.len c.if-at-out.false (omega (arith, c.if-k-out.true)) in record { place = both.0; text = both.1 }
-
-pub loop-i-init : goal.loop-i-init
-loop-i-init c = search (putting-start, spelled)
-
-pub loop-i-preserved : goal.loop-i-preserved
-loop-i-preserved c = search putting-on
-
-pub shape_of-out : goal.shape_of-out
-shape_of-out c = simp length-set (omega arith)
+pub overflow_add-result : goal.overflow_add-result
+overflow_add-result c =
+    let inside = last-inside c.args.out.now c.decimal-k.new.out c.args.at (omega arith) c.decimal-k.ensures.len c.decimal-k.ensures.digits (omega arith) c.put_bytes-last.ensures.place in
+    omega (arith, inside)
 
 pub returns : goal.returns
-returns c = let both = putting-ends c.loop-i.invariant c.loop-i-test.false in record { place = both.0; text = both.1 }
+returns c =
+    let both = number-put c.args.out.now c.decimal-k.new.out c.args.at (omega arith) c.decimal-k.ensures.len c.decimal-k.ensures.digits (omega arith) c.put_bytes-last.ensures.place c.args.end c.put_bytes-last.ensures.text in
+    record { place = both.0; text = both.1 }

@@ -1,9 +1,0 @@
--- `capture::check` meets its contract: a law of `Header` for each return. Assumes nothing.
-use Rattle.capture.proofs.Header.{at-clocks, past-clocks}
-use Rattle.capture.proofs.check.Goals as goal
-
-pub returns-then-clocks-gt0 : goal.returns-then-clocks-gt0
-returns-then-clocks-gt0 c = search at-clocks
-
-pub returns : goal.returns
-returns c = search past-clocks

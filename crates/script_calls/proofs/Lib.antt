@@ -1,2 +1,0 @@
-pub mod Floats
-pub mod Signs

@@ -1,6 +1,0 @@
--- `test_leaves::lines::sample` is safe: what the test leaves are the bits of a number. Assumes nothing.
-use Rattle.laws.proofs.Floats.{number-bits}
-use Rattle.test_leaves.proofs.lines.sample.Goals as goal
-
-pub float_from_bits-result : goal.float_from_bits-result
-float_from_bits-result c = search number-bits

@@ -1,7 +1,0 @@
--- `text_entries::line_entry_at` meets its contract: the value's decimal, and the line's next place. Assumes nothing.
-use Rattle.text_entries.specs.Entries.{line_entry_at}
-use Rattle.text_entries.proofs.line_entry_at.Goals as goal
-
-pub returns : goal.returns
-unfolding line_entry_at
-returns c = rw (c.line_at-line.ensures, c.decimal-number.ensures, c.value_at.ensures)
