@@ -13,7 +13,7 @@ EXEMPT = ("script_", "standard_input", "failures")
 PROMISES = os.path.join(ROOT, "docs", "PROMISES.md")
 ITEM = re.compile(r'^impl\b(?:<.*?>)? (?:\S+ for )?(\w+)|^\}|^ *(pub )?(?:const |unsafe |extern "C" )*fn (\w+)', re.M)
 # A conversion: `From` promises what its `from_gives` says of the value and the answer.
-FROM = re.compile(r"^impl From<(\w+)> for (\w+) \{\n    ghost from_gives = \{ λ \w+ r\. (.*) \};", re.M)
+FROM = re.compile(r"^impl From<(.+)> for (\w+) \{\n    ghost from_gives = \{ λ \w+ r\. (.*) \};", re.M)
 CLAUSE = re.compile(r"\b(requires|ensures)(?: \w+)?\s*$")
 HANDED_ON = re.compile(r"^pub use (\w+)::(?:(\w+)|\{([^{}]*)\});$", re.M)
 EXPORTED = re.compile(r'^pub extern "C" fn (\w+)\((?:(?!^\{$).)*^\{\n    (\w+)::\1\([^;{}]*\)\n\}', re.M | re.S)
@@ -55,7 +55,8 @@ def functions(crate):
         for item in ITEM.finditer(text):
             if made := conversions.get(item.start()):
                 owner = None
-                yield module + "%sFrom%s::from" % (made[2], made[1]), True, re.sub(r"^r ≡", "result ≡", made[3]), True
+                source = "".join(word[0].upper() + word[1:] for word in re.findall(r"\w+", made[1]))
+                yield module + "%sFrom%s::from" % (made[2], source), True, re.sub(r"^r ≡", "result ≡", made[3]), True
             elif item[3] and owner is not None:
                 yield module + owner + item[3], bool(item[2]), promise_at(text, item.end()), tells(text, item.end())
             elif not item[3]:

@@ -26,9 +26,10 @@ use Rattle.capture_writes.proofs.Ranged.{same_after, not_lower, accepted-at}
 use Rattle.capture_writes.proofs.Steps.{by-step, by-line}
 use Rattle.capture_body.specs.Walk.{writes_read}
 use Rattle.capture_body.proofs.Walking.{by-write}
-use Rattle.capture.specs.Checked.{Captured, told_capture, checked, capture_of}
+use Rattle.capture.specs.Checked.{told_capture, checked, capture_of}
 use Rattle.capture.specs.Rising.{Rising, line_from}
 use Rattle.capture.specs.declared.Capture.{Capture}
+use Rattle.capture.specs.declared.Captured.{Captured}
 
 pub record Laid (t : List ℕ) (r : Captured) : Type 0 where
   pub top : r.master ≤ 1073741823

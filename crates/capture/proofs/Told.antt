@@ -17,8 +17,9 @@ use Rattle.capture_writes.proofs.Ranged.{refused-line}
 use Rattle.capture_writes.proofs.Steps.{by-step, by-line}
 use Rattle.capture_body.specs.Walk.{writes_read}
 use Rattle.capture_body.proofs.Walking.{by-write}
-use Rattle.capture.specs.Checked.{Captured, told_capture, checked, capture_of}
+use Rattle.capture.specs.Checked.{told_capture, checked, capture_of}
 use Rattle.capture.specs.declared.Capture.{Capture}
+use Rattle.capture.specs.declared.Captured.{Captured}
 
 -- line 5 + 3 × 1,500 is the last that a refusal can name: bytes after as many writes as there may be
 pub record Told (v : Captured) : Type 0 where

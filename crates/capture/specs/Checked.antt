@@ -9,6 +9,7 @@ use Rattle.capture_lines.specs.OneLine.{writes_line, words_line}
 use Rattle.capture_writes.specs.Writes.{◌>>=◌}
 use Rattle.capture_body.specs.Walk.{writes_read}
 use Rattle.capture.specs.declared.Capture.{Capture}
+use Rattle.capture.specs.declared.Captured.{Captured}
 
 -- "Lines in order: `master=`, `rate=`, `writes=` (0..1,500), `words=` (1..65,536), then per write ..", from line 5 on. The first write has
 -- no stamp before it, and no stamp is lower than 0.
@@ -23,15 +24,6 @@ checked text = do
   Ok (record { master = clocks.master; rate = clocks.rate; writes = writes; words = words; body = four.next })
 
 -- The same in numbers: of an accepted capture number and line are 0, and of a refused one the rest is 0.
-pub record Captured : Type 0 where
-  pub no : ℕ
-  pub line : ℕ
-  pub master : ℕ
-  pub rate : ℕ
-  pub writes : ℕ
-  pub words : ℕ
-  pub body : ℕ
-
 abbrev pub refused_at : ℕ → ℕ → Captured
 refused_at number line = record { no = number; line = line; master = 0; rate = 0; writes = 0; words = 0; body = 0 }
 

@@ -2,7 +2,7 @@
 #![tactic(auto)]
 
 ghost use Rattle.std.specs.Prelude.{◌≡◌};
-ghost use Rattle.capture.specs.Checked.{checked};
+ghost use Rattle.capture.specs.Checked.{checked, told_capture};
 
 use capture_body::writes_read;
 use capture_lines::{words_line, writes_line};
@@ -12,6 +12,19 @@ use text_entries::line_entry_at;
 // What an accepted capture's four header lines say, and the place of the first write's lines.
 #[derive(Clone, Copy)]
 pub struct Capture {
+    pub master: u32,
+    pub rate: u32,
+    pub writes: u16,
+    pub words: u32,
+    pub body: usize,
+}
+
+// The same in one record of numbers. `no` 0 is accepted: `line` is 0, and `body` is the place of the first write's lines.
+// Any other number is the refusal, at `line`, and the rest is 0.
+#[derive(Clone, Copy)]
+pub struct Captured {
+    pub no: u8,
+    pub line: u32,
     pub master: u32,
     pub rate: u32,
     pub writes: u16,
@@ -36,4 +49,31 @@ pub fn check(text: &[u8]) -> Result<Capture, LineRefused>
         words,
         body: four.next,
     })
+}
+
+impl From<Result<Capture, LineRefused>> for Captured {
+    ghost from_gives = { λ checked r. r ≡ told_capture checked };
+
+    fn from(checked: Result<Capture, LineRefused>) -> Captured {
+        match checked {
+            Ok(capture) => Captured {
+                no: refusals::ACCEPTED,
+                line: 0,
+                master: capture.master,
+                rate: capture.rate,
+                writes: capture.writes,
+                words: capture.words,
+                body: capture.body,
+            },
+            Err(refused) => Captured {
+                no: refused.why.number(),
+                line: refused.line,
+                master: 0,
+                rate: 0,
+                writes: 0,
+                words: 0,
+                body: 0,
+            },
+        }
+    }
 }

@@ -5,7 +5,7 @@ use Prim.Native.Nat.{ℕ, ◌^◌, ◌≤◌, ◌<◌}
 use native.Mathlib.Omega.{arith}
 use lib.ListN.{length}
 use Rattle.laws.proofs.Tests.{by-eq}
-use Rattle.capture.specs.Checked.{Captured}
+use Rattle.capture.specs.declared.Captured.{Captured}
 use Rattle.output_lines.proofs.Saying.{total-few, left-few, refusal-few, total-some, left-some, refusal-some}
 use Rattle.capture_output.specs.Ends.{first_line, line_of, last_line}
 

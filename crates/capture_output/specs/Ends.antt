@@ -2,7 +2,7 @@
 use Rattle.std.specs.Prelude.{ℕ, ◌+◌, ◌-◌, ◌*◌, cond, List, eqb}
 use Rattle.refusals.specs.Numbers.{accepted}
 use Rattle.output_lines.specs.Lines.{left_text, refusal_text, total_text}
-use Rattle.capture.specs.Checked.{Captured}
+use Rattle.capture.specs.declared.Captured.{Captured}
 
 -- "Output is as `playdump`": a refusal, or the number of words asked
 unfoldable pub first_line : Captured → List ℕ

@@ -3,22 +3,20 @@
 
 ghost use Rattle.std.specs.Prelude.{◌≡◌, ◌≤◌, length};
 ghost use Rattle.text_put.specs.Text.{laid, place_after};
-ghost use Rattle.capture.specs.Checked.{told_capture};
 ghost use Rattle.capture_output.specs.Ends.{first_line, last_line, line_of};
 
-use capture::Capture;
-use dump_clocks::LineRefused;
+use capture::Captured;
 
 // Each stands at the buffer's start, and its length comes back; where it does not fit, nothing is written. 32 bytes are room enough.
-pub fn put_first_line(out: &mut [u8], verdict: Result<Capture, LineRefused>) -> usize
-    ensures place { result ≡ place_after out.old 0 (first_line (told_capture verdict)) }
-    ensures text { out.new ≡ laid out.old 0 (first_line (told_capture verdict)) }
-    ensures few { length (first_line (told_capture verdict)) ≤ 32 }
+pub fn put_first_line(out: &mut [u8], verdict: Captured) -> usize
+    ensures place { result ≡ place_after out.old 0 (first_line verdict) }
+    ensures text { out.new ≡ laid out.old 0 (first_line verdict) }
+    ensures few { length (first_line verdict) ≤ 32 }
 {
-    match verdict {
-        Ok(capture) => output_lines::put_total(out, capture.words),
-        Err(refused) => output_lines::put_refusal(out, refused.why.number(), refused.line),
+    if verdict.no == refusals::ACCEPTED {
+        return output_lines::put_total(out, verdict.words);
     }
+    output_lines::put_refusal(out, verdict.no, verdict.line)
 }
 
 // `left` writes of `writes` are left; a number other than 0, as the chip answers it, is that of the first of them, which was refused.

@@ -18,7 +18,6 @@ use Rattle.calls_words.proofs.Accepted.{buffer-words}
 use Rattle.dump_words.specs.Words.{lines_of, words_laid, words_place}
 use Rattle.capture_passing.proofs.Free.{free-few}
 use Rattle.capture_passing.specs.declared.Passing.{Passing}
-use Rattle.capture.specs.Checked.{told_capture}
 use Rattle.capture_output.specs.Ends.{first_line}
 use Rattle.capture_steps.specs.declared.Player.{Player}
 use Rattle.capture_steps.specs.declared.Piece.{Piece}
@@ -108,7 +107,7 @@ module _ (text out : List ℕ) (p : Player) where
   too_short h = given-as out (on-lt _ _ _ _ _ h refl) (on-lt _ _ _ _ _ h refl) (refl, over_none out 0)
 
   module _ (room : 32 ≤ length out) where
-    pub first_step_lem : not p.begun ≡ true → {x : Piece} {after : List ℕ} → Given out x after (first_step p) (first_line (told_capture p.verdict)) → Stepped x after
+    pub first_step_lem : not p.begun ≡ true → {x : Piece} {after : List ℕ} → Given out x after (first_step p) (first_line p.verdict) → Stepped x after
     unfolding step_of step_lines
     first_step_lem b = let f = not-true p.begun b in given-as out (is-first _ p _ _ _ _ _ room f) (is-first _ p _ _ _ _ _ room f)
 

@@ -8,7 +8,7 @@ use Rattle.clocking_block.specs.Block.{words_of}
 use Rattle.answers.specs.declared.Blocked.{Blocked}
 use Rattle.dump_words.specs.Words.{lines_of}
 use Rattle.dump_progress.specs.Progress.{words_in}
-use Rattle.capture.specs.Checked.{told_capture, checked, capture_of}
+use Rattle.capture.specs.Checked.{capture_of}
 use Rattle.capture_passing.specs.Due.{pass_due_from, free_words}
 use Rattle.capture_passing.specs.declared.Passing.{Passing}
 use Rattle.capture_output.specs.Ends.{first_line, last_line}
@@ -20,7 +20,7 @@ unfoldable pub start_of : List ℕ → Player
 start_of text =
     let v = capture_of text in
     record {
-      verdict = checked text;
+      verdict = v;
       chip = (with_clocks v.master v.rate).chip;
       at = v.body;
       writes = v.writes;
@@ -47,11 +47,11 @@ piece p lines = record { player = p; length = length lines }
 
 -- the first line
 abbrev pub first_step : Player → Piece
-first_step p = piece (begins p) (first_line (told_capture p.verdict))
+first_step p = piece (begins p) (first_line p.verdict)
 
 -- the last one, with so many writes left
 abbrev pub last_line_of : ℕ → ℕ → Player → List ℕ
-last_line_of number left p = last_line number (told_capture p.verdict).writes left
+last_line_of number left p = last_line number p.verdict.writes left
 
 abbrev pub last_step : ℕ → ℕ → Player → Piece
 last_step number left p = piece (ends p) (last_line_of number left p)
@@ -101,7 +101,7 @@ step_lines text room p =
     (cond p.ended []
     (cond (eqb p.words 0) (last_line_of accepted p.writes p)
     (course_lines text room p)))
-    (first_line (told_capture p.verdict)))
+    (first_line p.verdict))
 
 unfoldable pub step_of : List ℕ → ℕ → Player → Piece
 step_of text room p =

@@ -3,13 +3,11 @@
 
 ghost use Rattle.std.specs.Prelude.{◌≡◌, ◌≤◌, length};
 ghost use Rattle.text_put.specs.Text.{overlaid};
-ghost use Rattle.capture.specs.Checked.{told_capture};
 ghost use Rattle.capture_output.specs.Ends.{first_line, last_line};
 ghost use Rattle.capture_steps.specs.Steps.{course_lines, course_step, first_step, free_for, last_step, start_of, step_lines, step_of, word_lines, words_for, words_step};
 
-use capture::Capture;
+use capture::Captured;
 use chip::Chip;
-use dump_clocks::LineRefused;
 
 // The shortest buffer that is filled: any line that is printed has room in it.
 pub const LEAST_ROOM: usize = 32;
@@ -18,7 +16,7 @@ pub const LEAST_ROOM: usize = 32;
 // words yet to be handed out; whether the first and the last line have been.
 #[derive(Clone, Copy)]
 pub struct Player {
-    pub verdict: Result<Capture, LineRefused>,
+    pub verdict: Captured,
     pub chip: Chip,
     pub at: usize,
     pub writes: u16,
@@ -39,25 +37,15 @@ pub struct Piece {
 pub fn start(text: &[u8]) -> Player
     ensures { result ≡ start_of text.now }
 {
-    match capture::check(text) {
-        Ok(capture) => Player {
-            verdict: Ok(capture),
-            chip: calls_making::with_clocks(capture.master, capture.rate).chip,
-            at: capture.body,
-            writes: capture.writes,
-            words: capture.words,
-            begun: false,
-            ended: false,
-        },
-        Err(refused) => Player {
-            verdict: Err(refused),
-            chip: calls_making::with_clocks(0, 0).chip,
-            at: 0,
-            writes: 0,
-            words: 0,
-            begun: false,
-            ended: true,
-        },
+    let verdict = Captured::from(capture::check(text));
+    Player {
+        verdict,
+        chip: calls_making::with_clocks(verdict.master, verdict.rate).chip,
+        at: verdict.body,
+        writes: verdict.writes,
+        words: verdict.words,
+        begun: false,
+        ended: verdict.no != refusals::ACCEPTED,
     }
 }
 
@@ -85,7 +73,7 @@ pub fn step(player: Player, text: &[u8], out: &mut [u8]) -> Piece
 fn give_first_line(player: Player, out: &mut [u8]) -> Piece
     requires { 32 ≤ length out.old }
     ensures answer { result ≡ first_step player }
-    ensures buffer { out.new ≡ overlaid out.old 0 (first_line (told_capture player.verdict)) }
+    ensures buffer { out.new ≡ overlaid out.old 0 (first_line player.verdict) }
 {
     let verdict = player.verdict;
     let length = capture_output::put_first_line(out, verdict);
@@ -97,23 +85,13 @@ fn give_first_line(player: Player, out: &mut [u8]) -> Piece
 fn give_last_line(player: Player, no: u8, left: u16, out: &mut [u8]) -> Piece
     requires { 32 ≤ length out.old }
     ensures answer { result ≡ last_step no left player }
-    ensures buffer { out.new ≡ overlaid out.old 0 (last_line no (told_capture player.verdict).writes left) }
+    ensures buffer { out.new ≡ overlaid out.old 0 (last_line no player.verdict.writes left) }
 {
-    let writes = all_writes(player.verdict);
-    let length = capture_output::put_last_line(out, no, writes, left);
+    let verdict = player.verdict;
+    let length = capture_output::put_last_line(out, no, verdict.writes, left);
     let mut player = player;
     player.ended = true;
     Piece { player, length }
-}
-
-// Those of the whole capture. A refused one has none.
-fn all_writes(verdict: Result<Capture, LineRefused>) -> u16
-    ensures { result ≡ (told_capture verdict).writes }
-{
-    match verdict {
-        Ok(capture) => capture.writes,
-        Err(_) => 0,
-    }
 }
 
 // What is due is passed, and then come words; or the line of the write that was refused.

@@ -16,8 +16,9 @@ use Rattle.dump_clocks.specs.Clocks.{at_line, and_then, clock_lines}
 use Rattle.dump_clocks.specs.declared.ClockLines.{ClockLines}
 use Rattle.dump_clocks.specs.declared.LineRefused.{LineRefused}
 use Rattle.dump_clocks.proofs.Paced.{Paced, numbered, accepted-paced}
-use Rattle.dump.specs.Checked.{frames_from, sized, checked, Verdict, told, verdict_of}
+use Rattle.dump.specs.Checked.{frames_from, sized, checked, told, verdict_of}
 use Rattle.dump.specs.declared.Dump.{Dump}
+use Rattle.dump.specs.declared.Verdict.{Verdict}
 
 -- the place of the line f lines on
 abbrev pub place_from : List ℕ → ℕ → ℕ → ℕ

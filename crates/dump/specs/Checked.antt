@@ -10,6 +10,7 @@ use Rattle.dump_clocks.specs.Clocks.{at_line, and_then, clock_lines}
 use Rattle.dump_clocks.specs.declared.ClockLines.{ClockLines}
 use Rattle.dump_clocks.specs.declared.LineRefused.{LineRefused}
 use Rattle.dump.specs.declared.Dump.{Dump}
+use Rattle.dump.specs.declared.Verdict.{Verdict}
 
 -- the frames' lines; then 10 at the line after the last
 unfoldable pub frames_from : List ℕ → ℕ → ℕ → ℕ → Result (Unit {0}) LineRefused
@@ -35,15 +36,6 @@ unfoldable pub checked : List ℕ → Result Dump LineRefused
 checked text = and_then (clock_lines text) (sized text)
 
 -- A check's numbers: `no` 0 is accepted, and `line` is 0; any other is the refusal's, at its line, and the rest is 0.
-pub record Verdict : Type 0 where
-  pub no : ℕ
-  pub line : ℕ
-  pub master : ℕ
-  pub rate : ℕ
-  pub words : ℕ
-  pub frames : ℕ
-  pub body : ℕ
-
 unfoldable pub told : Result Dump LineRefused → Verdict
 told (Ok d) = record { no = accepted; line = 0; master = d.master; rate = d.rate; words = d.words; frames = d.frames; body = d.body }
 told (Err e) = record { no = number_of e.why; line = e.line; master = 0; rate = 0; words = 0; frames = 0; body = 0 }

@@ -2,7 +2,7 @@
 #![tactic(auto)]
 
 ghost use Rattle.std.specs.Prelude.{◌≡◌};
-ghost use Rattle.dump.specs.Checked.{checked, frames_from};
+ghost use Rattle.dump.specs.Checked.{checked, frames_from, told};
 
 use dump_clocks::{LineRefused, at_line, clock_lines};
 use dump_lines::{frames_line, words_line};
@@ -19,14 +19,46 @@ pub struct Dump {
     pub body: usize,
 }
 
-// What a player of a refused dump plays: no frames.
-pub const NO_DUMP: Dump = Dump {
-    master: 0,
-    rate: 0,
-    words: 0,
-    frames: 0,
-    body: 0,
-};
+// The same as numbers, which a player holds. `no` 0 is accepted, and `line` is 0; any other is 01's refusal, at `line`, and of a check the rest
+// is 0.
+#[derive(Clone, Copy)]
+pub struct Verdict {
+    pub no: u8,
+    pub line: u32,
+    pub master: u32,
+    pub rate: u32,
+    pub words: u16,
+    pub frames: u16,
+    pub body: usize,
+}
+
+impl From<Result<Dump, LineRefused>> for Verdict {
+    ghost from_gives = { λ checked r. r ≡ told checked };
+
+    #[tactic(auto, unfolding(crate::specs::Checked::told))]
+    fn from(checked: Result<Dump, LineRefused>) -> Verdict {
+        match checked {
+            Ok(dump) => Verdict {
+                no: refusals::ACCEPTED,
+                line: 0,
+                master: dump.master,
+                rate: dump.rate,
+                words: dump.words,
+                frames: dump.frames,
+                body: dump.body,
+            },
+            Err(refused) => Verdict {
+                no: refused.why.number(),
+                line: refused.line,
+                master: 0,
+                rate: 0,
+                words: 0,
+                frames: 0,
+                body: 0,
+            },
+        }
+    }
+}
 
 #[tactic(auto, unfolding(crate::specs::Checked::checked, crate::specs::Checked::sized))]
 pub fn check(text: &[u8]) -> Result<Dump, LineRefused>

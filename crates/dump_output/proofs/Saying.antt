@@ -6,7 +6,7 @@ use native.Mathlib.Nat.{mul-le-mul}
 use native.Mathlib.Omega.{arith}
 use lib.ListN.{length}
 use Rattle.laws.proofs.Tests.{by-eq}
-use Rattle.dump.specs.Checked.{Verdict}
+use Rattle.dump.specs.declared.Verdict.{Verdict}
 use Rattle.output_lines.proofs.Saying.{total-few, refusal-few, total-some, refusal-some}
 use Rattle.dump_output.specs.Printed.{first_line}
 

@@ -2,7 +2,7 @@
 use Rattle.std.specs.Prelude.{ℕ, ◌*◌, cond, List, eqb}
 use Rattle.refusals.specs.Numbers.{accepted}
 use Rattle.output_lines.specs.Lines.{refusal_text, total_text}
-use Rattle.dump.specs.Checked.{Verdict}
+use Rattle.dump.specs.declared.Verdict.{Verdict}
 
 -- A refusal prints only `refused=R line=L`. The output's `words=` is the total over all frames.
 unfoldable pub first_line : Verdict → List ℕ

@@ -23,11 +23,6 @@ use Rattle.calls_words.specs.Blocks.{blocked, block_buffer}
 use Rattle.calls_words.proofs.Accepted.{buffer-words}
 use Rattle.dump_frames.specs.Frame.{frame_reported}
 use Rattle.dump_frames.proofs.Loading.{reported-is}
-use Rattle.std.specs.Prelude.{Result, Ok, Err}
-use Rattle.std.specs.Result.{result_unwrap_or}
-use Rattle.dump_clocks.specs.declared.LineRefused.{LineRefused}
-use Rattle.dump.specs.declared.Dump.{Dump}
-use Rattle.dump.specs.Checked.{Verdict, told}
 use Rattle.dump_output.specs.Printed.{first_line}
 use Rattle.dump_words.specs.Words.{lines_of, words_laid, words_place}
 use Rattle.dump_progress.specs.declared.Progress.{Progress}
@@ -36,28 +31,16 @@ use Rattle.dump_player.specs.declared.Player.{Player}
 use Rattle.dump_player.specs.declared.Piece.{Piece}
 use Rattle.dump_player.specs.Player.{first_piece, loaded_from, frame_begun, readied, nothing, word_lines, words_piece, bytes_of, piece_of}
 
--- what a player plays has the check's numbers
-abbrev pub no_dump : Dump
-no_dump = record { master = 0; rate = 0; words = 0; frames = 0; body = 0 }
-
-abbrev numbers : Verdict → Dump
-numbers v = record { master = v.master; rate = v.rate; words = v.words; frames = v.frames; body = v.body }
-
-pub played-told : (r : Result Dump LineRefused) → result_unwrap_or r no_dump ≡ numbers (told r)
-unfolding told
-played-told (Ok d) = refl
-played-told (Err e) = refl
-
 -- the first line
-pub first-given : (p : Player) (out : List ℕ) → 32 ≤ length out → length (first_line (told p.verdict)) ≤ 32
-    → {g : Progress} → g ≡ first_line_given p.progress → {n : ℕ} → n ≡ place_after out 0 (first_line (told p.verdict)) → {after : List ℕ} → after ≡ laid out 0 (first_line (told p.verdict))
+pub first-given : (p : Player) (out : List ℕ) → 32 ≤ length out → length (first_line p.verdict) ≤ 32
+    → {g : Progress} → g ≡ first_line_given p.progress → {n : ℕ} → n ≡ place_after out 0 (first_line p.verdict) → {after : List ℕ} → after ≡ laid out 0 (first_line p.verdict)
     → (record { player = record { verdict = p.verdict; at = p.at; chip = p.chip; progress = g }; length = n } ≡ first_piece p)
-    × (after ≡ overlaid out 0 (first_line (told p.verdict)))
+    × (after ≡ overlaid out 0 (first_line p.verdict))
 unfolding first_piece
 first-given p out room few {g} o {n} e f =
-    let fits : 0 + length (first_line (told p.verdict)) ≤ length out = omega (arith, few) in
-    let z : 0 + length (first_line (told p.verdict)) ≡ length (first_line (told p.verdict)) = omega arith in
-    (rw (o, e ∙ place-over out 0 (first_line (told p.verdict)) fits ∙ z), f ∙ laid-over out 0 (first_line (told p.verdict)) fits)
+    let fits : 0 + length (first_line p.verdict) ≤ length out = omega (arith, few) in
+    let z : 0 + length (first_line p.verdict) ≡ length (first_line p.verdict) = omega arith in
+    (rw (o, e ∙ place-over out 0 (first_line p.verdict) fits ∙ z), f ∙ laid-over out 0 (first_line p.verdict) fits)
 
 -- the words left, as many as there is room for
 module _ (p : Player) (out words : List ℕ) (n : length words ≡ words_for (length out) p.progress) {b : Blocked} (e : b ≡ blocked (length words) p.chip) where
@@ -104,19 +87,16 @@ module _ (text : List ℕ) (p : Player) {l : Applied} (e : l ≡ frame_reported 
   unfolding frame_begun
   frame-not z = rw (ne_eqb (loaded_from text p).no 0 (λ y. z (number ∙ y)))
 
-  pub frame-begins : l.answer.no ≡ 0 → {x : Line} → x ≡ line_at text p.at → {d : Dump} → d ≡ result_unwrap_or p.verdict no_dump → {g : Progress} → g ≡ frame_begins d.words p.progress
+  pub frame-begins : l.answer.no ≡ 0 → {x : Line} → x ≡ line_at text p.at → {g : Progress} → g ≡ frame_begins p.verdict.words p.progress
       → record { verdict = p.verdict; at = x.next; chip = l.chip; progress = g } ≡ frame_begun text p
   unfolding frame_begun
-  frame-begins z f u h = rw (eq-eqb (loaded_from text p).no 0 (sym number ∙ z), chip, f, h, u, played-told p.verdict)
+  frame-begins z f h = rw (eq-eqb (loaded_from text p).no 0 (sym number ∙ z), chip, f, h)
 
 not_left : (t s : Bool) → cond t false s ≡ true → s ≡ true
 not_left true s e = let z : false ≡ true = e in cc
 not_left false s e = e
 
-module _ (text : List ℕ) (p : Player) {d : Dump} (u : d ≡ result_unwrap_or p.verdict no_dump) {due : Bool} (e' : due ≡ frame_due d.frames p.progress) where
-  e : due ≡ frame_due (told p.verdict).frames p.progress
-  e = rw (u, played-told p.verdict) at e'
-
+module _ (text : List ℕ) (p : Player) {due : Bool} (e : due ≡ frame_due p.verdict.frames p.progress) where
   pub next-frame : due ≡ true → {q : Player} → q ≡ frame_begun text p → q ≡ readied text p
   unfolding readied
   next-frame d f = on-true _ _ _ _ (sym e ∙ d) f
@@ -126,9 +106,9 @@ module _ (text : List ℕ) (p : Player) {d : Dump} (u : d ≡ result_unwrap_or p
   no-frame d = on-false _ _ _ _ (sym e ∙ d) refl
 
   -- a frame that is due is not the last that a number holds
-  pub due-few : d.frames < 65536 → due ≡ true → p.progress.frames < 65535
+  pub due-few : p.verdict.frames < 65536 → due ≡ true → p.progress.frames < 65535
   unfolding frame_due
-  due-few h g = omega (arith, ltb-true p.progress.frames d.frames (not_left (ltb 0 p.progress.left) _ (sym e' ∙ g)))
+  due-few h d = omega (arith, ltb-true p.progress.frames p.verdict.frames (not_left (ltb 0 p.progress.left) _ (sym e ∙ d)))
 
 -- the piece
 module _ (text out : List ℕ) (p : Player) where
@@ -148,7 +128,7 @@ module _ (text out : List ℕ) (p : Player) where
       (rw e at g) ∙ ap (λ (l : List ℕ). overlaid out 0 l) (on-ge _ _ _ _ _ room (on-true p.progress.begun _ _ _ b refl)),
     )
 
-    pub first_piece_lem : p.progress.begun ≡ false → {x : Piece} → x ≡ first_piece p → {after : List ℕ} → after ≡ overlaid out 0 (first_line (told p.verdict)) → Given x after
+    pub first_piece_lem : p.progress.begun ≡ false → {x : Piece} → x ≡ first_piece p → {after : List ℕ} → after ≡ overlaid out 0 (first_line p.verdict) → Given x after
     unfolding piece_of bytes_of
     first_piece_lem b f g = (
       on-ge _ _ _ _ _ room (on-false p.progress.begun _ _ _ b f),

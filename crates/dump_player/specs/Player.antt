@@ -3,7 +3,7 @@ use Rattle.std.specs.Prelude.{cond, List, [], ℕ, eqb, ltb, length}
 use Rattle.refusals.specs.Numbers.{accepted}
 use Rattle.text_lines.specs.Bytes.{bytes}
 use Rattle.text_lines.specs.Lines.{line_at, value_at}
-use Rattle.dump.specs.Checked.{checked, told, verdict_of}
+use Rattle.dump.specs.Checked.{verdict_of}
 use Rattle.answers.specs.declared.Answered.{Answered}
 use Rattle.answers.specs.declared.Blocked.{Blocked}
 use Rattle.calls_making.specs.Making.{with_clocks}
@@ -20,14 +20,14 @@ use Rattle.dump_player.specs.declared.Piece.{Piece}
 unfoldable pub start_of : List ℕ → Player
 start_of text =
     let v = verdict_of text in
-    record { verdict = checked text; at = v.body; chip = (with_clocks v.master v.rate).chip; progress = nothing_given }
+    record { verdict = v; at = v.body; chip = (with_clocks v.master v.rate).chip; progress = nothing_given }
 
 -- The first line: a refusal's, or the total's.
 unfoldable pub first_piece : Player → Piece
 first_piece p =
     record {
       player = record { verdict = p.verdict; at = p.at; chip = p.chip; progress = first_line_given p.progress };
-      length = length (first_line (told p.verdict));
+      length = length (first_line p.verdict);
     }
 
 -- "Each frame writes R0..R13 at once in order": it begins, where it is due. (No frame of a checked dump is refused.)
@@ -38,11 +38,11 @@ unfoldable pub frame_begun : List ℕ → Player → Player
 frame_begun text p =
     let l = loaded_from text p in
     cond (eqb l.no accepted)
-    (record { verdict = p.verdict; at = (line_at text p.at).next; chip = l.chip; progress = frame_begins (told p.verdict).words p.progress })
+    (record { verdict = p.verdict; at = (line_at text p.at).next; chip = l.chip; progress = frame_begins p.verdict.words p.progress })
     p
 
 unfoldable pub readied : List ℕ → Player → Player
-readied text p = cond (frame_due (told p.verdict).frames p.progress) (frame_begun text p) p
+readied text p = cond (frame_due p.verdict.frames p.progress) (frame_begun text p) p
 
 -- "then renders its words": as many of those left as there is room for.
 abbrev pub rendered : ℕ → Player → Blocked
@@ -72,7 +72,7 @@ unfoldable pub bytes_of : List ℕ → ℕ → Player → List ℕ
 bytes_of text room p =
     cond (ltb room least_room) []
     (cond p.progress.begun (word_lines room (readied text p))
-    (first_line (told p.verdict)))
+    (first_line p.verdict))
 
 unfoldable pub piece_of : List ℕ → ℕ → Player → Piece
 piece_of text room p =

@@ -3,14 +3,12 @@
 
 ghost use Rattle.std.specs.Prelude.{◌≡◌, ◌≤◌, ◌<◌, length};
 ghost use Rattle.text_put.specs.Text.{overlaid};
-ghost use Rattle.dump.specs.Checked.{told};
 ghost use Rattle.dump_output.specs.Printed.{first_line};
 ghost use Rattle.dump_progress.specs.Progress.{words_for};
 ghost use Rattle.dump_player.specs.Player.{bytes_of, first_piece, frame_begun, piece_of, readied, start_of, word_lines, words_piece};
 
 use chip::Chip;
-use dump::Dump;
-use dump_clocks::LineRefused;
+use dump::Verdict;
 use dump_progress::Progress;
 
 // The shortest buffer that is filled: any line that is printed has room in it.
@@ -20,7 +18,7 @@ pub const LEAST_ROOM: usize = 32;
 // been handed out.
 #[derive(Clone, Copy)]
 pub struct Player {
-    pub verdict: Result<Dump, LineRefused>,
+    pub verdict: Verdict,
     pub at: usize,
     pub chip: Chip,
     pub progress: Progress,
@@ -37,12 +35,11 @@ pub struct Piece {
 pub fn start(text: &[u8]) -> Player
     ensures { result ≡ start_of text.now }
 {
-    let verdict = dump::check(text);
-    let dump = verdict.unwrap_or(dump::NO_DUMP);
-    let made = calls_making::with_clocks(dump.master, dump.rate);
+    let verdict = Verdict::from(dump::check(text));
+    let made = calls_making::with_clocks(verdict.master, verdict.rate);
     Player {
         verdict,
-        at: dump.body,
+        at: verdict.body,
         chip: made.chip,
         progress: Progress {
             begun: false,
@@ -71,7 +68,7 @@ pub fn next_piece(player: Player, text: &[u8], out: &mut [u8]) -> Piece
 fn give_first_line(player: Player, out: &mut [u8]) -> Piece
     requires { 32 ≤ length out.old }
     ensures answer { result ≡ first_piece player }
-    ensures buffer { out.new ≡ overlaid out.old 0 (first_line (told player.verdict)) }
+    ensures buffer { out.new ≡ overlaid out.old 0 (first_line player.verdict) }
 {
     let length = dump_output::put_first_line(out, player.verdict);
     let progress = dump_progress::first_line_given(player.progress);
@@ -84,8 +81,7 @@ fn give_first_line(player: Player, out: &mut [u8]) -> Piece
 fn ready(player: Player, text: &[u8]) -> Player
     ensures { result ≡ readied text.now player }
 {
-    let dump = player.verdict.unwrap_or(dump::NO_DUMP);
-    if dump_progress::frame_due(player.progress, dump.frames) {
+    if dump_progress::frame_due(player.progress, player.verdict.frames) {
         return begin_frame(player, text);
     }
     player
@@ -96,13 +92,12 @@ fn begin_frame(player: Player, text: &[u8]) -> Player
     requires { player.progress.frames < 65535 }
     ensures { result ≡ frame_begun text.now player }
 {
-    let dump = player.verdict.unwrap_or(dump::NO_DUMP);
     let loaded = dump_frames::load_frame(player.chip, text, player.at);
     if loaded.answer.no != refusals::ACCEPTED {
         return player;
     }
     let line = text_lines::line_at(text, player.at);
-    let progress = dump_progress::frame_begins(player.progress, dump.words);
+    let progress = dump_progress::frame_begins(player.progress, player.verdict.words);
     Player {
         verdict: player.verdict,
         at: line.next,

@@ -20,7 +20,6 @@ use Rattle.capture_passing.proofs.Free.{free-few, free-none, some-free}
 use Rattle.capture_course.specs.Course.{course}
 use Rattle.capture_course.specs.Claims.{NoneBy, followed_by}
 use Rattle.capture_course.proofs.Courses.{blocks}
-use Rattle.capture.specs.Checked.{told_capture}
 use Rattle.capture_output.specs.Ends.{last_line}
 use Rattle.capture_steps.specs.declared.Player.{Player}
 use Rattle.capture_steps.specs.Steps.{renders, words_for, word_lines, words_step}
@@ -92,7 +91,7 @@ module _ (text : List ℕ) (room : ℕ) (q : Player) (h : 32 ≤ room) (s : Stan
 
   pub words_step_lem : q.begun ≡ true → q.ended ≡ false → Step text room q (word_lines text room q) (words_step text room q).player
   words_step_lem b going =
-      let writes = (told_capture q.verdict).writes in
+      let writes = q.verdict.writes in
       let line = last_line (course_yet text given).no writes (length (course_yet text given).rest) in
       let words = words_of n q.chip in
       let later = (course_yet text given).words in

@@ -10,7 +10,6 @@ use lib.ListN.{length}
 use Rattle.laws.proofs.Tests.{by-same}
 use Rattle.laws_pieces.proofs.Pieces.{Gives}
 use Rattle.laws_pieces.proofs.Filling.{filling-gives}
-use Rattle.capture.specs.Checked.{told_capture}
 use Rattle.capture_output.specs.Ends.{first_line}
 use Rattle.capture_steps.specs.declared.Player.{Player}
 use Rattle.capture_steps.specs.Steps.{passed_by, passes, piece, first_step, last_step, last_line_of, word_lines, words_step, course_lines, course_step, step_lines, step_of}
@@ -27,7 +26,7 @@ module _ (text : List ℕ) (room : ℕ) (p : Player) (h : 32 ≤ room) (s : Stan
     course-words some z =
         let q : Player = passes (passed_by text p) p in
         let w = words_step_lem text room q h (passed-stands text p s some z) some (passed_none text p s some z) b going in
-        let same : rest_of text q ≡ rest_of text p = rest-going text q b going ∙ ap (course_text (told_capture p.verdict).writes) (passed-course text p s some z) ∙ sym (rest-going text p b going) in
+        let same : rest_of text q ≡ rest_of text p = rest-going text q b going ∙ ap (course_text p.verdict.writes) (passed-course text p s some z) ∙ sym (rest-going text p b going) in
         record { stands = w.stands; part = w.part ∙ same; last = λ e. sym same ∙ w.last e; within = w.within }
 
     course-step : (p.words ≡ 0 → ⊥) → Step text room p (course_lines text room p) (course_step text room p).player
@@ -49,7 +48,7 @@ module _ (text : List ℕ) (room : ℕ) (p : Player) (h : 32 ≤ room) (s : Stan
           (λ z. rw (ne_eqb p.words 0 z) (course-step b e z))
 
       by_both : (b e : Bool) → p.begun ≡ b → p.ended ≡ e
-          → Step text room p (cond b (cond e [] (cond (eqb p.words 0) (last_line_of 0 p.writes p) (course_lines text room p))) (first_line (told_capture p.verdict)))
+          → Step text room p (cond b (cond e [] (cond (eqb p.words 0) (last_line_of 0 p.writes p) (course_lines text room p))) (first_line p.verdict))
           (cond b (cond e (piece p []) (cond (eqb p.words 0) (last_step 0 p.writes p) (course_step text room p))) (first_step p)).player
       by_both true true b e = none-step text room p h s b e
       by_both true false b e = goes b e

@@ -7,7 +7,8 @@ use lib.ListN.{length, length-append}
 use Rattle.laws.proofs.Tests.{by-eq}
 use Rattle.laws_in_range.proofs.CallsInRange.{with-clocks-kept}
 use Rattle.dump_words.specs.Words.{lines_of}
-use Rattle.capture.specs.Checked.{Captured, capture_of}
+use Rattle.capture.specs.Checked.{capture_of}
+use Rattle.capture.specs.declared.Captured.{Captured}
 use Rattle.capture.proofs.Told.{told}
 use Rattle.capture_writes.proofs.Listed.{how-many}
 use Rattle.capture_course.specs.Course.{Course}

@@ -15,7 +15,7 @@ use Rattle.bus_writes.specs.declared.BusWrite.{BusWrite}
 use Rattle.laws_in_range.proofs.CallsInRange.{with-clocks-kept}
 use Rattle.dump_played.proofs.Whole.{made-start}
 use Rattle.capture_writes.specs.Writes.{writes_from}
-use Rattle.capture.specs.Checked.{told_capture, capture_of}
+use Rattle.capture.specs.Checked.{capture_of}
 use Rattle.capture.proofs.Told.{told}
 use Rattle.capture.proofs.Accepted.{accepted-laid}
 use Rattle.capture_passing.proofs.Listed.{Good}
@@ -38,11 +38,11 @@ course_text writes k = lines_of k.words ++ last_line k.no writes (length k.rest)
 
 unfoldable pub rest_of : List ℕ → Player → List ℕ
 rest_of text p =
-    cond p.begun [] (first_line (told_capture p.verdict)) ++ cond p.ended [] (course_text (told_capture p.verdict).writes (course_yet text p))
+    cond p.begun [] (first_line p.verdict) ++ cond p.ended [] (course_text p.verdict.writes (course_yet text p))
 
 -- what holds of a player from its start on
 pub record Stands (text : List ℕ) (p : Player) : Type 0 where
-  pub verdict : told_capture p.verdict ≡ capture_of text
+  pub verdict : p.verdict ≡ capture_of text
   pub range : InRange p.chip
   pub good : Good text p.writes p.at
   pub few : p.writes ≤ (capture_of text).writes
@@ -66,7 +66,7 @@ module _ (text : List ℕ) where
       by-same (capture_of text).no 0 (λ e. (accepted-laid text e).write k h) (λ e. absurd (omega (arith, (told text).none e, h)))
 
   pub start-stands : Stands text (start_of text)
-  unfolding start_of capture_of
+  unfolding start_of
   start-stands =
       let v = capture_of text in
       record {
@@ -79,7 +79,7 @@ module _ (text : List ℕ) where
       }
 
   pub rest-start : rest_of text (start_of text) ≡ printed text
-  unfolding rest_of start_of printed course_of capture_of
+  unfolding rest_of start_of printed course_of
   rest-start =
       let v = capture_of text in
       let k = course_of text in

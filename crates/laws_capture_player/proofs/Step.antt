@@ -6,7 +6,6 @@ use Prim.Native.Nat.{ℕ, ◌≤◌, ◌<◌}
 use native.Mathlib.Omega.{arith}
 use lib.ListN.{length}
 use Rattle.dump_words.specs.Words.{lines_of}
-use Rattle.capture.specs.Checked.{told_capture}
 use Rattle.capture.proofs.Told.{Told, told}
 use Rattle.capture_writes.proofs.Listed.{how-many}
 use Rattle.capture_course.proofs.Courses.{course-zero}
@@ -29,23 +28,23 @@ module _ (text : List ℕ) (p : Player) (b : p.begun ≡ true) where
   unfolding rest_of
   rest_ended e = rw (b, e)
 
-  pub rest-going : p.ended ≡ false → rest_of text p ≡ course_text (told_capture p.verdict).writes (course_yet text p)
+  pub rest-going : p.ended ≡ false → rest_of text p ≡ course_text p.verdict.writes (course_yet text p)
   unfolding rest_of
   rest-going e = rw (b, e)
 
 module _ (text : List ℕ) (room : ℕ) (p : Player) (h : 32 ≤ room) (s : Stands text p) where
-  verdict-told : Told (told_capture p.verdict)
+  verdict-told : Told p.verdict
   verdict-told = rw s.verdict (told text)
 
-  pub first_step_lem : p.begun ≡ false → Step text room p (first_line (told_capture p.verdict)) (begins p)
+  pub first_step_lem : p.begun ≡ false → Step text room p (first_line p.verdict) (begins p)
   unfolding rest_of
   first_step_lem b =
       let t = verdict-told in
       record {
         stands = record { verdict = s.verdict; range = s.range; good = s.good; few = s.few; words = s.words; early = s.early };
         part = rw b;
-        last = λ e. absurd (first_some (told_capture p.verdict) e);
-        within = omega (arith, first-few (told_capture p.verdict) t.no (omega (arith, t.line)) (omega (arith, t.words)), h);
+        last = λ e. absurd (first_some p.verdict e);
+        within = omega (arith, first-few p.verdict t.no (omega (arith, t.line)) (omega (arith, t.words)), h);
       }
 
   pub none-step : p.begun ≡ true → p.ended ≡ true → Step text room p [] p
@@ -58,13 +57,13 @@ module _ (text : List ℕ) (room : ℕ) (p : Player) (h : 32 ≤ room) (s : Stan
     unfolding lines_of
     line_step number left n l none no-is left_is =
         let t = verdict-told in
-        let w : (told_capture p.verdict).writes < 65536 = omega (arith, t.writes) in
+        let w : p.verdict.writes < 65536 = omega (arith, t.writes) in
         let rest : rest_of text p ≡ last_line_of number left p = rest-going text p b going ∙ rw (none, no-is, left_is) in
         record {
           stands = record { verdict = s.verdict; range = s.range; good = s.good; few = s.few; words = s.words; early = s.early };
           part = ap (λ (r : List ℕ). last_line_of number left p ++ r) (rest_ended text (ends p) b refl) ∙ append-nil (last_line_of number left p) ∙ sym rest;
-          last = λ e. absurd (last_some number (told_capture p.verdict).writes left e);
-          within = omega (arith, last-few number (told_capture p.verdict).writes left n w (omega (arith, s.few, (told text).writes, l)), h);
+          last = λ e. absurd (last_some number p.verdict.writes left e);
+          within = omega (arith, last-few number p.verdict.writes left n w (omega (arith, s.few, (told text).writes, l)), h);
         }
 
     -- no word is left

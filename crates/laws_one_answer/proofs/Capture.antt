@@ -16,6 +16,7 @@ captures =
       write_at = λ h x y. by_answer h.𝓤;
       writes_read = λ h x y. by_answer h.𝓤;
       check = λ h x y. by_answer h.𝓤;
+      captured = λ h x y. by_answer h.𝓤;
       is_due = λ h x y. by_answer h.𝓤;
       words_before = λ h x y. by_answer h.𝓤;
       pass_write = λ h x y. by_answer h.𝓤;

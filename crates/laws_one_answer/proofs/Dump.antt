@@ -33,6 +33,7 @@ played =
       clock_lines = λ h x y. by_answer h.𝓤;
       frames_read = λ h x y. by_answer h.𝓤;
       check = λ h x y. by_answer h.𝓤;
+      verdict = λ h x y. by_answer h.𝓤;
       is_frame = λ h x y. by_answer h.𝓤;
       line_entry_at = λ h x y. by_answer h.𝓤;
       master_line = λ h x y. by_answer h.𝓤;

@@ -7,6 +7,8 @@ notes =
     record {
       nearest_period = λ h x y. by_answer h.𝓤;
       are_nearest = λ h x y. by_answer h.𝓤;
+      found = λ h x y. by_answer h.𝓤;
+      checked = λ h x y. by_answer h.𝓤;
       check = λ h x y. by_answer h.𝓤;
       note_at = λ h x y. by_answer h.𝓤;
       room = λ h x y. by_first h.𝓤;

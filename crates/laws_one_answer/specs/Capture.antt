@@ -10,6 +10,7 @@ use Rattle.capture_lines.specs.contracts.value_line
 use Rattle.capture_writes.specs.contracts.write_at
 use Rattle.capture_body.specs.contracts.writes_read
 use Rattle.capture.specs.contracts.check
+use Rattle.capture.specs.contracts.CapturedFromResultCaptureLineRefused.from as captured
 use Rattle.bus_writes.specs.contracts.is_due
 use Rattle.bus_writes.specs.contracts.words_before
 use Rattle.bus.specs.contracts.pass_write
@@ -37,6 +38,7 @@ pub record Captures : Type 2 where
   pub write_at : Settles write_at.ended (λ M 𝓤. write_at.clauses)
   pub writes_read : Settles writes_read.ended (λ M 𝓤. writes_read.clauses)
   pub check : Settles check.ended (λ M 𝓤. check.clauses)
+  pub captured : Settles captured.ended (λ M 𝓤. captured.clauses)
   pub is_due : Settles is_due.ended (λ M 𝓤. is_due.clauses)
   pub words_before : Settles words_before.ended (λ M 𝓤. words_before.clauses)
   pub pass_write : Settles pass_write.ended (λ M 𝓤. pass_write.clauses)

@@ -13,6 +13,7 @@ use Rattle.dump_clocks.specs.contracts.at_line
 use Rattle.dump_clocks.specs.contracts.clock_lines
 use Rattle.dump_body.specs.contracts.frames_read
 use Rattle.dump.specs.contracts.check
+use Rattle.dump.specs.contracts.VerdictFromResultDumpLineRefused.from as verdict
 use Rattle.dump_lines.specs.contracts.is_frame
 use Rattle.text_entries.specs.contracts.line_entry_at
 use Rattle.dump_lines.specs.contracts.master_line
@@ -58,6 +59,7 @@ pub record Played : Type 2 where
   pub clock_lines : Settles clock_lines.ended (λ M 𝓤. clock_lines.clauses)
   pub frames_read : Settles frames_read.ended (λ M 𝓤. frames_read.clauses)
   pub check : Settles check.ended (λ M 𝓤. check.clauses)
+  pub verdict : Settles verdict.ended (λ M 𝓤. verdict.clauses)
   pub is_frame : Settles is_frame.ended (λ M 𝓤. is_frame.clauses)
   pub line_entry_at : Settles line_entry_at.ended (λ M 𝓤. line_entry_at.clauses)
   pub master_line : Settles master_line.ended (λ M 𝓤. master_line.clauses)

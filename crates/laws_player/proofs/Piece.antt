@@ -9,7 +9,6 @@ use lib.Dec.{ltb, eqb}
 use lib.ListN.{length}
 use Rattle.laws.proofs.Tests.{by_cond}
 use Rattle.clocking_block.specs.Block.{words_of}
-use Rattle.dump.specs.Checked.{told}
 use Rattle.dump_output.specs.Printed.{first_line}
 use Rattle.dump_output.proofs.Saying.{first-few, first_some}
 use Rattle.dump_words.specs.Words.{lines_of}
@@ -32,15 +31,15 @@ record Step (text : List ℕ) (room : ℕ) (p : Player) (piece : List ℕ) (next
   within : length piece ≤ room
 
 module _ (text : List ℕ) (room : ℕ) (p : Player) (h : 32 ≤ room) (s : Stands text p) where
-  first_step_lem : p.progress.begun ≡ false → Step text room p (first_line (told p.verdict)) (first_piece p).player
+  first_step_lem : p.progress.begun ≡ false → Step text room p (first_line p.verdict) (first_piece p).player
   unfolding rest_of first_piece words_yet
   first_step_lem b =
-      let t : Told (told p.verdict) = rw s.verdict (verdict-told text) in
+      let t : Told p.verdict = rw s.verdict (verdict-told text) in
       record {
         stands = record { verdict = s.verdict; at = s.at; frames = s.frames; left = s.left; chip = s.chip; range = s.range; early = s.early };
         part = rw b;
-        last = λ e. absurd (first_some (told p.verdict) e);
-        within = omega (arith, first-few (told p.verdict) t.no (omega (arith, t.line)) (omega (arith, t.words)) (omega (arith, t.frames)), h);
+        last = λ e. absurd (first_some p.verdict e);
+        within = omega (arith, first-few p.verdict t.no (omega (arith, t.line)) (omega (arith, t.words)) (omega (arith, t.frames)), h);
       }
 
   words_step_lem : p.progress.begun ≡ true → Step text room p (word_lines room (readied text p)) (words_piece room (readied text p)).player
@@ -71,7 +70,7 @@ module _ (text : List ℕ) (room : ℕ) (p : Player) (h : 32 ≤ room) (s : Stan
   step = rw (le-ltb room 32 h) (by-begun p.progress.begun refl)
     where
       by-begun : (b : Bool) → p.progress.begun ≡ b
-          → Step text room p (cond b (word_lines room (readied text p)) (first_line (told p.verdict))) (cond b (words_piece room (readied text p)) (first_piece p)).player
+          → Step text room p (cond b (word_lines room (readied text p)) (first_line p.verdict)) (cond b (words_piece room (readied text p)) (first_piece p)).player
       by-begun true b = words_step_lem b
       by-begun false b = first_step_lem b
 

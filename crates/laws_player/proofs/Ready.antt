@@ -8,7 +8,7 @@ use native.Mathlib.Omega.{arith}
 use borrow.Author.Tests.{lt-ltb, ltb-true, ltb-false}
 use Rattle.laws.proofs.Tests.{by_cond, by_order, by-same}
 use Rattle.text_lines.specs.Lines.{line_at}
-use Rattle.dump.specs.Checked.{told, verdict_of}
+use Rattle.dump.specs.Checked.{verdict_of}
 use Rattle.chip.specs.declared.Chip.{Chip}
 use Rattle.chip.proofs.InRange.{passes}
 use Rattle.clocking_block.specs.Block.{after_words, words_of}
@@ -48,7 +48,7 @@ module _ (text : List ℕ) (p : Player) (s : Stands text p) where
           verdict = p.verdict;
           at = (line_at text p.at).next;
           chip = d;
-          progress = record { begun = p.progress.begun; frames = f + 1; left = (told p.verdict).words };
+          progress = record { begun = p.progress.begun; frames = f + 1; left = p.verdict.words };
         }
 
     begun-is : frame_begun text p ≡ begun_at
@@ -82,7 +82,7 @@ pub record Ready (text : List ℕ) (p q : Player) : Type 0 where
   pub done : q.progress.left ≡ 0 → words_yet text p ≡ []
 
 module _ (text : List ℕ) (p : Player) (s : Stands text p) where
-  ready-same : frame_due (told p.verdict).frames p.progress ≡ false → Ready text p p
+  ready-same : frame_due p.verdict.frames p.progress ≡ false → Ready text p p
   unfolding frame_due words_yet words_of words_from
   ready-same due = record { stands = s; begun = refl; yet = refl; done = ended }
     where
@@ -92,14 +92,14 @@ module _ (text : List ℕ) (p : Player) (s : Stands text p) where
           let z : (verdict_of text).frames - p.progress.frames ≡ 0 = omega (arith, all) in
           rw (e, z)
 
-  ready-begun : frame_due (told p.verdict).frames p.progress ≡ true → Ready text p (frame_begun text p)
+  ready-begun : frame_due p.verdict.frames p.progress ≡ true → Ready text p (frame_begun text p)
   unfolding frame_due
   ready-begun due =
       by_order 1 p.progress.left (λ h. absurd (false≢true (rw (lt-ltb 0 p.progress.left h) at due)))
       (λ h.
       let none : p.progress.left ≡ 0 = omega arith in
       let more : p.progress.frames < (verdict_of text).frames = ltb-true _ _ (rw (none, s.verdict) at due) in
-      let words : 0 < (told p.verdict).words = rw s.verdict ((verdict-told text).some (accepted-text text p s none more)) in
+      let words : 0 < p.verdict.words = rw s.verdict ((verdict-told text).some (accepted-text text p s none more)) in
       rw (begun-is text p s none more)
       (record {
         stands = begun-stands text p s none more;
@@ -110,4 +110,4 @@ module _ (text : List ℕ) (p : Player) (s : Stands text p) where
 
   pub ready : Ready text p (readied text p)
   unfolding readied
-  ready = by_cond (Ready text p) (frame_due (told p.verdict).frames p.progress) (frame_begun text p) p ready-begun ready-same
+  ready = by_cond (Ready text p) (frame_due p.verdict.frames p.progress) (frame_begun text p) p ready-begun ready-same

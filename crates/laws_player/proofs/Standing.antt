@@ -7,7 +7,7 @@ use Prim.Native.Nat.{ℕ, zero, suc, ◌+◌, ◌-◌, ◌*◌, ◌^◌, ◌≤�
 use native.Mathlib.Omega.{arith}
 use borrow.Author.Tests.{eq-eqb, ne_eqb}
 use Rattle.laws.proofs.Tests.{by-same}
-use Rattle.dump.specs.Checked.{checked, told, verdict_of}
+use Rattle.dump.specs.Checked.{verdict_of}
 use Rattle.chip.proofs.InRange.{InRange}
 use Rattle.clocking_block.specs.Block.{after_words, words_of}
 use Rattle.output_lines.specs.Lines.{refusal_text}
@@ -31,11 +31,11 @@ words_yet text p =
     words_of p.progress.left p.chip ++ words_from text ((verdict_of text).frames - p.progress.frames) p.progress.frames
 
 unfoldable pub rest_of : List ℕ → Player → List ℕ
-rest_of text p = cond p.progress.begun [] (first_line (told p.verdict)) ++ lines_of (words_yet text p)
+rest_of text p = cond p.progress.begun [] (first_line p.verdict) ++ lines_of (words_yet text p)
 
 -- what holds of a player from its start on
 pub record Stands (text : List ℕ) (p : Player) : Type 0 where
-  pub verdict : p.verdict ≡ checked text
+  pub verdict : p.verdict ≡ verdict_of text
   pub at : p.at ≡ frame_place text p.progress.frames
   pub frames : p.progress.frames ≤ (verdict_of text).frames
   pub left : p.progress.left ≤ 4096

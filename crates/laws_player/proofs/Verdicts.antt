@@ -14,7 +14,8 @@ use Rattle.dump_clocks.specs.declared.ClockLines.{ClockLines}
 use Rattle.dump_clocks.specs.declared.LineRefused.{LineRefused}
 use Rattle.dump_clocks.proofs.Paced.{numbered, refused-early}
 use Rattle.dump.specs.declared.Dump.{Dump}
-use Rattle.dump.specs.Checked.{frames_from, sized, checked, Verdict, told, verdict_of}
+use Rattle.dump.specs.declared.Verdict.{Verdict}
+use Rattle.dump.specs.Checked.{frames_from, sized, checked, told, verdict_of}
 use Rattle.dump.proofs.Accepted.{Laid, checked-laid}
 
 pub record Told (v : Verdict) : Type 0 where

@@ -1,8 +1,11 @@
 -- Nearest period for a wanted note. 02, request 12. Assumes nothing.
 use Rattle.std.specs.Prelude.{Bool, true, false, cond, List, [], ◌∷◌, ℕ, zero, suc, ◌+◌, ◌-◌, ◌*◌, eqb, leb, ltb, length, Result, Ok, Err}
 use Rattle.laws.specs.All.{every}
+use Rattle.refusals.specs.Numbers.{accepted, number_of}
 use Rattle.refusals.specs.declared.Refusal.{Refusal}
 use Rattle.refusals.specs.declared.Refusal.TheVariants.{MasterTooHigh, PitchOutOfRange, ListsDiffer}
+use Rattle.pitch.specs.declared.Found.{Found}
+use Rattle.pitch.specs.declared.Checked.{Checked}
 
 -- "Given a master clock from 8 to 1,073,741,823 and a pitch in whole millihertz from 1 to 20,000,000"
 unfoldable pub master_in : ℕ → Bool
@@ -43,6 +46,11 @@ nearest_period master pitch =
     (cond (pitch_in pitch) (Ok (nearest_to master pitch)) (Err PitchOutOfRange))
     (Err MasterTooHigh)
 
+-- "A refusal returns period 0"
+unfoldable pub found : Result ℕ Refusal → Found
+found (Ok t) = record { no = accepted; period = t }
+found (Err why) = record { no = number_of why; period = 0 }
+
 -- "says yes exactly if each period is that one"; "empty lists are a yes". Lists of one length come here.
 unfoldable pub each_nearest : ℕ → List ℕ → List ℕ → Bool
 each_nearest master [] periods = true
@@ -58,3 +66,8 @@ are_nearest master pitches periods =
     (Err PitchOutOfRange))
     (Err ListsDiffer))
     (Err MasterTooHigh)
+
+-- "A refusal returns .. no"
+unfoldable pub checked : Result Bool Refusal → Checked
+checked (Ok right) = record { no = accepted; yes = right }
+checked (Err why) = record { no = number_of why; yes = false }

@@ -3,7 +3,7 @@
 
 ghost use Rattle.std.specs.Prelude.{true, ◌≡◌, length};
 ghost use Rattle.laws.specs.All.{every};
-ghost use Rattle.pitch.specs.Pitch.{are_nearest, each_nearest, master_in, nearest_period, nearest_to, pitch_in};
+ghost use Rattle.pitch.specs.Pitch.{are_nearest, checked, each_nearest, found, master_in, nearest_period, nearest_to, pitch_in};
 ghost use Rattle.pitch.specs.Claims.{MasterIn, PitchIn};
 
 use refusals::Refusal;
@@ -12,6 +12,56 @@ use refusals::Refusal;
 pub const LOWEST_MASTER: u32 = 8;
 
 pub const HIGHEST_MASTER: u32 = 1_073_741_823;
+
+// An answer of `nearest_period` as numbers. `no` 0 is accepted. Any other is the refusal, and the period is 0.
+#[derive(Clone, Copy)]
+pub struct Found {
+    pub no: u8,
+    pub period: u16,
+}
+
+impl From<Result<u16, Refusal>> for Found {
+    ghost from_gives = { λ answer r. r ≡ found answer };
+
+    #[tactic(auto, unfolding(crate::specs::Pitch::found))]
+    fn from(answer: Result<u16, Refusal>) -> Found {
+        match answer {
+            Ok(period) => Found {
+                no: refusals::ACCEPTED,
+                period,
+            },
+            Err(why) => Found {
+                no: why.number(),
+                period: 0,
+            },
+        }
+    }
+}
+
+// The same of `are_nearest`: of a refusal `yes` is false.
+#[derive(Clone, Copy)]
+pub struct Checked {
+    pub no: u8,
+    pub yes: bool,
+}
+
+impl From<Result<bool, Refusal>> for Checked {
+    ghost from_gives = { λ answer r. r ≡ checked answer };
+
+    #[tactic(auto, unfolding(crate::specs::Pitch::checked))]
+    fn from(answer: Result<bool, Refusal>) -> Checked {
+        match answer {
+            Ok(yes) => Checked {
+                no: refusals::ACCEPTED,
+                yes,
+            },
+            Err(why) => Checked {
+                no: why.number(),
+                yes: false,
+            },
+        }
+    }
+}
 
 // The pitch is in thousandths of a hertz.
 pub fn nearest_period(master: u32, pitch: u32) -> Result<u16, Refusal>

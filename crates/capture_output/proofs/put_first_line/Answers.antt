@@ -1,19 +1,21 @@
 -- `capture_output::put_first_line` meets its contract: the number of words or a refusal, as the check says. Assumes nothing.
-use borrow.Author.Tests.{ne_eqb}
 use native.Mathlib.Omega.{arith}
-use Rattle.refusals.specs.Numbers.{number_of}
-use Rattle.dump_clocks.proofs.Paced.{numbered}
-use Rattle.output_lines.proofs.Saying.{total-few, refusal-few}
+use Rattle.output_lines.specs.Lines.{refusal_text, total_text}
+use Rattle.output_lines.proofs.Saying.{put-accepted, put_refused}
 use Rattle.capture_output.specs.Ends.{first_line}
+use Rattle.capture_output.proofs.Saying.{first-few}
 use Rattle.capture_output.proofs.put_first_line.Goals as goal
 
-pub returns-in-Ok : goal.returns-in-Ok
+pub returns-then-verdict-eq-ACCEPTED : goal.returns-then-verdict-eq-ACCEPTED
 unfolding first_line
-returns-in-Ok c = record { place = rw c.in-Ok.is c.put_total.ensures.place; text = rw c.in-Ok.is c.put_total.ensures.text; few = rw c.in-Ok.is (total-few c.in-Ok.capture.words (omega arith)) }
+returns-then-verdict-eq-ACCEPTED c =
+    let v = c.args.verdict in
+    let both = put-accepted _ v.no (total_text v.words) _ c.if-verdict-eq-ACCEPTED.true (c.put_total.ensures.place, c.put_total.ensures.text) in
+    record { place = both.0; text = both.1; few = first-few v (omega arith) (omega arith) (omega arith) }
 
-pub returns-in-Err : goal.returns-in-Err
+pub returns : goal.returns
 unfolding first_line
-returns-in-Err c =
-    let why = c.in-Err.refused.why in
-    let not = ne_eqb (number_of why) 0 (λ e. omega (arith, numbered why)) in
-    record { place = rw (c.in-Err.is, not) (rw c.number.ensures at c.put_refusal.ensures.place); text = rw (c.in-Err.is, not) (rw c.number.ensures at c.put_refusal.ensures.text); few = rw (c.in-Err.is, not) (refusal-few (number_of why) c.in-Err.refused.line (numbered why).1 (omega arith)) }
+returns c =
+    let v = c.args.verdict in
+    let both = put_refused _ v.no _ (refusal_text v.no v.line) c.if-verdict-eq-ACCEPTED.false (c.put_refusal.ensures.place, c.put_refusal.ensures.text) in
+    record { place = both.0; text = both.1; few = first-few v (omega arith) (omega arith) (omega arith) }

@@ -6,4 +6,4 @@ pub returns-then-loaded-ne-ACCEPTED : goal.returns-then-loaded-ne-ACCEPTED
 returns-then-loaded-ne-ACCEPTED c = frame-not _ _ c.load_frame-loaded.ensures c.if-loaded-ne-ACCEPTED.true
 
 pub returns : goal.returns
-returns c = frame-begins _ _ c.load_frame-loaded.ensures c.if-loaded-ne-ACCEPTED.false c.line_at-line.ensures c.unwrap_or-dump.ensures c.frame_begins-progress.ensures
+returns c = frame-begins _ _ c.load_frame-loaded.ensures c.if-loaded-ne-ACCEPTED.false c.line_at-line.ensures c.frame_begins-progress.ensures
