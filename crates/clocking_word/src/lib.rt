@@ -82,7 +82,10 @@ pub fn kept_of_word(variant: u8, channels: Channels, voice: Voice, gate: u32) ->
     requires envelope_in_range { EnvelopeInRange voice.generators.envelope }
     ensures { result ≡ (mixed_of variant channels voice gate).channels }
 {
-    mix_word(variant, channels, voice, gate).channels
+    let level = voice.generators.envelope.level();
+    let volumes = volumes_of(voice);
+    let halves = halves_of(voice.generators);
+    mixer::kept(variant, channels, volumes, halves, level, gate)
 }
 
 // R8 to R10.
