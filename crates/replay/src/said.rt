@@ -2,7 +2,7 @@
 use crate::block::Words;
 use answers::{Byte, Bytes, Count, Counts, Cycle, Flag, Outputs, Wrote};
 use queue::Queue;
-use script_print::Bits;
+use script_print::{Bits, Decimal};
 use std::fmt;
 
 #[derive(Clone, Copy)]
@@ -32,7 +32,10 @@ impl fmt::Display for Said<'_> {
         write!(f, "{no}")?;
         match self.rest {
             Rest::Nothing => Ok(()),
-            Rest::Number(n) => write!(f, " {n}"),
+            Rest::Number(n) => {
+                let n = Decimal(n);
+                write!(f, " {n}")
+            }
             Rest::Bytes(bytes) => write_bytes(f, &bytes),
             Rest::Floats(a, b, c) => {
                 let a = Bits(a);

@@ -107,12 +107,15 @@ pub fn levels(rt: &impl Print) -> io::Result<()> {
     Ok(())
 }
 
+// 99 where the table has another: it has none.
 fn table_level(i: u8) -> u64
     requires { i < 32 }
 {
-    let all = tables::level_table();
-    let at = i as usize;
-    all[at] as u64
+    let level = tables::level(i);
+    if tables::level_table()[i as usize] != level {
+        return 99;
+    }
+    level as u64
 }
 
 // 99 where the row's wave gives another: none does.
